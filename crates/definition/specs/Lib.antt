@@ -1,0 +1,4 @@
+pub mod Base
+pub mod Form
+pub mod Read
+pub mod Session

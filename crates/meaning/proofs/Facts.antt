@@ -1,0 +1,55 @@
+-- The facts of a finished session from which demand 3 follows along a path.
+-- Assumes nothing.
+use Prim.Native.Nat.{ℕ, zero, suc, _+_, _<_}
+use mathlib.Core.Path.{_≡_, refl}
+use mathlib.Core.Logic.{_≢_, _⊎_, inl, inr}
+use mathlib.Core.Bool.{Bool, true, false, cond}
+use mathlib.Core.Option.{Option, none, some}
+use mathlib.Core.List.{List, [], _∷_, _++_}
+use lib.Dec.{eqb}
+use lib.ListN.{length, getD}
+use Rattle.definition.specs.Base.{put, orElse}
+use Rattle.definition.specs.Form.{Graph, Form, Info, Sort, made, param, nought, def}
+use Rattle.definition.specs.Read.{resolve, type-of}
+use Rattle.definition.specs.Session.{State}
+use Rattle.meaning.specs.Path.{In, Act, makes, gives, uses, acts}
+
+-- the argument that stands for the parameter y
+abbrev pub arg-of : List ℕ → List ℕ → ℕ → Option ℕ
+arg-of [] us y = none
+arg-of (x ∷ xs) [] y = none
+arg-of (x ∷ xs) (u ∷ us) y = cond (eqb y x) (some u) (arg-of xs us y)
+
+-- what stands for each variable after some acts
+abbrev pub cur : (ℕ → Option ℕ) → List Act → ℕ → Option ℕ
+cur f [] = f
+cur f (makes x ∷ us) = cur f us
+cur f (gives v x ∷ us) = cur (put v (some x) f) us
+cur f (uses v x ∷ us) = cur f us
+
+module _ (g : Graph) (s : Form) (K : ℕ → List ℕ) where
+  -- the value e, which stands for v where b begins, is each predecessor's value at its end, or a parameter that each predecessor feeds with it
+  pub data Edge (v b e : ℕ) : Type 0 where
+    same : g .sealed b ≡ true → ((p : ℕ) → In p (g .preds b) → (o : ℕ) × (def s v p ≡ some o) × (resolve s o ≡ resolve s e)) → Edge v b e
+    kept : g .sealed b ≡ true → resolve s e ≡ e → In e (K b)
+        → ((p : ℕ) → In p (g .preds b) → (o : ℕ) × (def s v p ≡ some o)
+        × ((i : ℕ) → i < length (g .dests p) → getD (g .dests p) i 0 ≡ b → (a : ℕ) × (arg-of (K b) (s .args p i) e ≡ some a) × (resolve s a ≡ resolve s o)))
+        → Edge v b e
+
+module _ (g : Graph) (s : Form) where
+  -- acts that the form explains: f what stands for each variable, ms the values made before, us the answers given before
+  abbrev pub Told : ℕ → (ℕ → Option ℕ) → List ℕ → List ℕ → List Act → Type 0
+  Told b f ms us [] = Unit {0}
+  Told b f ms us (makes x ∷ r) = (In x ms → ⊥) × (s .info x .home ≡ b) × (s .info x .sort ≡ made) × (resolve s x ≡ x) × Told b f (x ∷ ms) us r
+  Told b f ms us (gives v x ∷ r) = (In x ms ⊎ In x us) × Told b (put v (some x) f) ms us r
+  Told b f ms us (uses v x ∷ r) = ((o : ℕ) × (f v ≡ some o) × (resolve s x ≡ resolve s o)) × Told b f ms (x ∷ us) r
+
+pub record Facts (t : State) : Type 0 where
+  pub told : (b : ℕ) → Told (t .graph) (t .form) b (λ v. t .form .entry v b) [] [] (acts b (t .done))
+  pub last : (b v : ℕ) → def (t .form) v b ≡ cur (λ w. t .form .entry w b) (acts b (t .done)) v
+  pub inside : (b p : ℕ) → In p (t .graph .preds b) → b < t .graph .blocks
+  pub edge : (b v e : ℕ) → t .graph .sealed b ≡ true → t .form .entry v b ≡ some e → Edge (t .graph) (t .form) (t .form .params) v b e
+  pub first : (v e : ℕ) → t .form .entry v 0 ≡ some e
+      → (t .form .info (resolve (t .form) e) .sort ≡ nought) × (t .form .info (resolve (t .form) e) .home ≡ 0)
+      × (t .form .info (resolve (t .form) e) .type ≡ type-of (t .graph) v)
+  pub params : (b x : ℕ) → In x (t .form .params b) → (t .form .info x .home ≡ b) × (t .form .info x .sort ≡ param)

@@ -1,0 +1,173 @@
+-- Lists of numbers: membership, no duplicates, arguments by parameter. Assumes nothing.
+use Prim.Native.Nat.{ℕ, zero, suc, _+_, _<_, _≤_}
+use mathlib.Core.Path.{_≡_, refl, sym, ap, _∙_, subst}
+use mathlib.Core.Logic.{_≢_, _⊎_, inl, inr}
+use mathlib.Core.Bool.{Bool, true, false, cond}
+use mathlib.Core.Option.{Option, none, some}
+use mathlib.Core.List.{List, [], _∷_, _++_, append-assoc}
+use lib.Dec.{eqb}
+use lib.ListN.{length, getD}
+use native.Mathlib.Omega.{arith}
+use Rattle.definition.specs.Base.{put, put₂, without, orElse}
+use Rattle.meaning.specs.Path.{In}
+use Rattle.meaning.proofs.Maps.{same?, put-same, put-other, put-at, eqb-same, eqb-diff, eqb-eq, some-inj}
+use Rattle.meaning.proofs.Facts.{arg-of}
+
+pub in-left : {A : Type 0} (x : A) (l r : List A) → In x l → In x (l ++ r)
+in-left x [] r h = absurd h
+in-left x (y ∷ l) r (inl e) = inl e
+in-left x (y ∷ l) r (inr h) = inr (in-left x l r h)
+
+pub in-right : {A : Type 0} (x : A) (l r : List A) → In x r → In x (l ++ r)
+in-right x [] r h = h
+in-right x (y ∷ l) r h = inr (in-right x l r h)
+
+pub in-cases : {A : Type 0} (x : A) (l r : List A) → In x (l ++ r) → In x l ⊎ In x r
+in-cases x [] r h = inr h
+in-cases x (y ∷ l) r (inl e) = inl (inl e)
+in-cases x (y ∷ l) r (inr h) = more (in-cases x l r h)
+  where
+    more : In x l ⊎ In x r → In x (y ∷ l) ⊎ In x r
+    more (inl i) = inl (inr i)
+    more (inr i) = inr i
+
+abbrev pub Nodup : List ℕ → Type 0
+Nodup [] = Unit {0}
+Nodup (x ∷ l) = (In x l → ⊥) × Nodup l
+
+pub nodup-snoc : (l : List ℕ) (x : ℕ) → Nodup l → (In x l → ⊥) → Nodup (l ++ x ∷ [])
+nodup-snoc [] x h n = ((λ i. i), tt)
+nodup-snoc (y ∷ l) x h n = (λ i. by (in-cases y l (x ∷ []) i), nodup-snoc l x (h .1) (λ i. n (inr i)))
+  where
+    by : In y l ⊎ In y (x ∷ []) → ⊥
+    by (inl i) = h .0 i
+    by (inr (inl e)) = n (inl (sym e))
+    by (inr (inr i)) = i
+
+-- in a list without duplicates, what stands in the first part is not in the second
+pub nodup-apart : (l r : List ℕ) (x : ℕ) → Nodup (l ++ r) → In x l → In x r → ⊥
+nodup-apart [] r x h i j = i
+nodup-apart (y ∷ l) r x h (inl e) j = h .0 (in-right y l r (subst (λ (k : ℕ). In k r) e j))
+nodup-apart (y ∷ l) r x h (inr i) j = nodup-apart l r x (h .1) i j
+
+pub nodup-right : (l r : List ℕ) → Nodup (l ++ r) → Nodup r
+nodup-right [] r h = h
+nodup-right (y ∷ l) r h = nodup-right l r (h .1)
+
+pub without-in : (x : ℕ) (l : List ℕ) (y : ℕ) → In y (without x l) → In y l × (y ≢ x)
+without-in x [] y h = absurd h
+without-in x (z ∷ l) y h = by (same? z x) h (without-in x l y)
+  where
+    by : (z ≡ x) ⊎ (z ≢ x) → In y (without x (z ∷ l)) → (In y (without x l) → In y l × (y ≢ x)) → In y (z ∷ l) × (y ≢ x)
+    by (inl e) i below =
+        let j : In y (without x l) = rw (ap (λ (k : ℕ). eqb k x) e ∙ eqb-same x) at i in
+        (inr (below j .0), below j .1)
+    by (inr ne) i below = on (rw (eqb-diff z x ne) at i)
+      where
+        on : (y ≡ z) ⊎ In y (without x l) → In y (z ∷ l) × (y ≢ x)
+        on (inl q) = (inl q, λ r. ne (sym q ∙ r))
+        on (inr j) = (inr (below j .0), below j .1)
+
+pub without-none : (x : ℕ) (l : List ℕ) → (In x l → ⊥) → without x l ≡ l
+without-none x [] h = refl
+without-none x (z ∷ l) h = rw (eqb-diff z x (λ e. h (inl (sym e)))) (ap {B = List ℕ} (λ r. z ∷ r) (without-none x l (λ i. h (inr i))))
+
+pub without-append : (x : ℕ) (l r : List ℕ) → without x (l ++ r) ≡ without x l ++ without x r
+without-append x [] r = refl
+without-append x (z ∷ l) r = by (eqb z x) (without-append x l r)
+  where
+    by : (b : Bool) → without x (l ++ r) ≡ without x l ++ without x r
+        → cond b (without x (l ++ r)) (z ∷ without x (l ++ r)) ≡ cond b (without x l) (z ∷ without x l) ++ without x r
+    by true e = e
+    by false e = ap {B = List ℕ} (λ q. z ∷ q) e
+
+pub without-mid : (x : ℕ) (l r : List ℕ) → Nodup (l ++ x ∷ r) → without x (l ++ x ∷ r) ≡ l ++ r
+without-mid x l r h =
+    without-append x l (x ∷ r)
+    ∙ rw (without-none x l (λ i. nodup-apart l (x ∷ r) x h i (inl refl)), eqb-same x, without-none x r (nodup-right l (x ∷ r) h .0))
+
+pub nodup-without : (x : ℕ) (l : List ℕ) → Nodup l → Nodup (without x l)
+nodup-without x [] h = tt
+nodup-without x (z ∷ l) h = by (eqb z x) (nodup-without x l (h .1))
+  where
+    by : (b : Bool) → Nodup (without x l) → Nodup (cond b (without x l) (z ∷ without x l))
+    by true n = n
+    by false n = (λ i. h .0 (without-in x l z i .0), n)
+
+-- pairs of a variable and its parameter
+abbrev pub PIn : ℕ → ℕ → List (ℕ × ℕ) → Type 0
+PIn w x [] = ⊥
+PIn w x (q ∷ qs) = ((w ≡ q .0) × (x ≡ q .1)) ⊎ PIn w x qs
+
+abbrev pub snds : List (ℕ × ℕ) → List ℕ
+snds [] = []
+snds (q ∷ qs) = q .1 ∷ snds qs
+
+pub snds-append : (l r : List (ℕ × ℕ)) → snds (l ++ r) ≡ snds l ++ snds r
+snds-append [] r = refl
+snds-append (q ∷ l) r = ap {B = List ℕ} (λ k. q .1 ∷ k) (snds-append l r)
+
+pub pin-snds : (w x : ℕ) (l : List (ℕ × ℕ)) → PIn w x l → In x (snds l)
+pin-snds w x [] h = h
+pin-snds w x (q ∷ l) (inl e) = inl (e .1)
+pin-snds w x (q ∷ l) (inr h) = inr (pin-snds w x l h)
+
+pub pin-left : (w x : ℕ) (l r : List (ℕ × ℕ)) → PIn w x l → PIn w x (l ++ r)
+pin-left w x [] r h = absurd h
+pin-left w x (q ∷ l) r (inl e) = inl e
+pin-left w x (q ∷ l) r (inr h) = inr (pin-left w x l r h)
+
+pub pin-last : (w x : ℕ) (l : List (ℕ × ℕ)) → PIn w x (l ++ (w, x) ∷ [])
+pin-last w x [] = inl (refl, refl)
+pin-last w x (q ∷ l) = inr (pin-last w x l)
+
+pub pin-cases : (w x v y : ℕ) (l : List (ℕ × ℕ)) → PIn w x (l ++ (v, y) ∷ []) → PIn w x l ⊎ ((w ≡ v) × (x ≡ y))
+pin-cases w x v y [] (inl e) = inr e
+pin-cases w x v y [] (inr h) = absurd h
+pin-cases w x v y (q ∷ l) (inl e) = inl (inl e)
+pin-cases w x v y (q ∷ l) (inr h) = more (pin-cases w x v y l h)
+  where
+    more : PIn w x l ⊎ ((w ≡ v) × (x ≡ y)) → PIn w x (q ∷ l) ⊎ ((w ≡ v) × (x ≡ y))
+    more (inl i) = inl (inr i)
+    more (inr i) = inr i
+
+-- arguments
+pub arg-more : (K L U Z : List ℕ) (e a : ℕ) → arg-of K U e ≡ some a → arg-of (K ++ L) (U ++ Z) e ≡ some a
+arg-more [] L U Z e a h = absurd (mathlib.Core.Option.Option·none-ne-some a h)
+arg-more (k ∷ K) L [] Z e a h = absurd (mathlib.Core.Option.Option·none-ne-some a h)
+arg-more (k ∷ K) L (u ∷ U) Z e a h = by (eqb e k) (arg-more K L U Z e a) h
+  where
+    by : (b : Bool) → (arg-of K U e ≡ some a → arg-of (K ++ L) (U ++ Z) e ≡ some a) → cond b (some u) (arg-of K U e) ≡ some a → cond b (some u) (arg-of (K ++ L) (U ++ Z) e) ≡ some a
+    by true below q = q
+    by false below q = below q
+
+pub arg-last : (K U : List ℕ) (e a : ℕ) → (In e K → ⊥) → length U ≡ length K → arg-of (K ++ e ∷ []) (U ++ a ∷ []) e ≡ some a
+arg-last [] [] e a n h = rw (eqb-same e)
+arg-last [] (u ∷ U) e a n h = absurd (omega arith)
+arg-last (k ∷ K) [] e a n h = absurd (omega arith)
+arg-last (k ∷ K) (u ∷ U) e a n h = rw (eqb-diff e k (λ q. n (inl q))) (arg-last K U e a (λ i. n (inr i)) (omega arith))
+
+-- maps of two keys
+module _ {A : Type 0} where
+  pub put₂-at : (k l : ℕ) (a : A) (f : ℕ → ℕ → A) (i j : ℕ) → i ≡ k → j ≡ l → put₂ k l a f i j ≡ a
+  put₂-at k l a f i j p q = ap (λ (h : ℕ → A). h j) (put-at k (put l a (f k)) f i p) ∙ put-at l a (f k) j q
+
+  pub put₂-other : (k l : ℕ) (a : A) (f : ℕ → ℕ → A) (i j : ℕ) → (i ≡ k → j ≡ l → ⊥) → put₂ k l a f i j ≡ f i j
+  put₂-other k l a f i j n = by (same? i k)
+    where
+      by : (i ≡ k) ⊎ (i ≢ k) → put₂ k l a f i j ≡ f i j
+      by (inl p) = ap (λ (h : ℕ → A). h j) (put-at k (put l a (f k)) f i p) ∙ put-other l a (f k) j (n p) ∙ ap (λ (h : ℕ). f h j) (sym p)
+      by (inr p) = ap (λ (h : ℕ → A). h j) (put-other k (put l a (f k)) f i p)
+
+-- is it this pair of keys?
+pub here? : (i k j l : ℕ) → ((i ≡ k) × (j ≡ l)) ⊎ (i ≡ k → j ≡ l → ⊥)
+here? i k j l = by (same? i k) (same? j l)
+  where
+    by : (i ≡ k) ⊎ (i ≢ k) → (j ≡ l) ⊎ (j ≢ l) → ((i ≡ k) × (j ≡ l)) ⊎ (i ≡ k → j ≡ l → ⊥)
+    by (inl p) (inl q) = inl (p, q)
+    by (inl p) (inr q) = inr (λ _ h. q h)
+    by (inr p) q = inr (λ h _. p h)
+
+pub or-mono : (a a′ b b′ : Option ℕ) (o : ℕ) → a′ ≡ a → ((e : ℕ) → b ≡ some e → b′ ≡ some e) → orElse a b ≡ some o → orElse a′ b′ ≡ some o
+or-mono (some x) a′ b b′ o p h q = ap (λ (c : Option ℕ). orElse c b′) p ∙ q
+or-mono none a′ b b′ o p h q = ap (λ (c : Option ℕ). orElse c b′) p ∙ h o q

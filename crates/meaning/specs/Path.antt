@@ -1,0 +1,118 @@
+-- What a finished session means on a path, and demand 3.
+-- Assumes nothing.
+use Prim.Native.Nat.{ℕ, zero, suc, _+_, _<_}
+use mathlib.Core.Path.{_≡_, refl}
+use mathlib.Core.Logic.{_≢_, _⊎_, inl, inr}
+use mathlib.Core.Bool.{Bool, true, false, not, cond, _&&_, _||_}
+use mathlib.Core.Option.{Option, none, some}
+use mathlib.Core.List.{List, [], _∷_, _++_}
+use lib.Dec.{eqb}
+use lib.ListN.{length, getD}
+use Rattle.definition.specs.Base.{put}
+use Rattle.definition.specs.Form.{Graph, Form, Info, Sort, made, param, nought, def}
+use Rattle.definition.specs.Read.{resolve, type-of}
+use Rattle.definition.specs.Session.{Call, Done, State, session}
+
+-- x is in the list
+abbrev pub In : {A : Type 0} → A → List A → Type 0
+In x [] = ⊥
+In x (y ∷ ys) = (x ≡ y) ⊎ In x ys
+
+-- What a block itself does, in list order: make a value, give a variable a value, use a variable with an answer.
+pub data Act : Type 0 where
+  makes : ℕ → Act
+  gives : ℕ → ℕ → Act
+  uses : ℕ → ℕ → Act
+
+abbrev pub if-so : Bool → Act → List Act
+if-so true a = a ∷ []
+if-so false a = []
+
+-- what an accepted call of kinds 3 to 6 does in block b
+abbrev pub act : ℕ → Done → List Act
+act b d =
+    let k = d .asked .kind in
+    let yes? = eqb (d .code) 0 in
+    if-so (yes? && eqb k 3 && eqb (d .asked .x) b) (makes (d .number))
+    ++ if-so (yes? && (eqb k 4 || eqb k 5) && eqb (d .asked .z) b) (gives (d .asked .x) (d .number))
+    ++ if-so (yes? && eqb k 6 && eqb (d .asked .y) b) (uses (d .asked .x) (d .number))
+
+abbrev pub acts : ℕ → List Done → List Act
+acts b [] = []
+acts b (d ∷ ds) = act b d ++ acts b ds
+
+-- an accepted declaration of branch p, and an accepted definition in block p
+abbrev pub declares : ℕ → Done → Bool
+declares p d = eqb (d .asked .kind) 9 && eqb (d .code) 0 && eqb (d .asked .y) p
+
+abbrev pub defines : ℕ → Done → Bool
+defines p d = (eqb (d .asked .kind) 4 || eqb (d .asked .kind) 5) && eqb (d .code) 0 && eqb (d .asked .z) p
+
+-- The suppositions of demand 3, of a finished session.
+pub record Supposed (t : State) : Type 0 where
+  pub all-sealed : (b : ℕ) → b < t .graph .blocks → t .graph .sealed b ≡ true
+  pub none-enters-0 : (p : ℕ) → In 0 (t .graph .dests p) → ⊥
+  pub all-declared : (p b : ℕ) → In b (t .graph .dests p) → In p (t .graph .preds b)
+  pub none-late : (p : ℕ) (ds es : List Done) (d e : Done) → t .done ≡ ds ++ d ∷ es → declares p d ≡ true → In e es → defines p e ≡ false
+  pub own-values : (b v x : ℕ) (us bs : List Act) → acts b (t .done) ≡ us ++ gives v x ∷ bs → In (makes x) us ⊎ ((w : ℕ) × In (uses w x) us)
+
+-- Words that values hold, and the zero of each type.
+module _ (W : Type 0) (null : ℕ → W) (t : State) where
+  abbrev pub res : ℕ → ℕ
+  res x = resolve (t .form) x
+
+  -- what the values hold, and what the variables have received
+  pub record Mem : Type 0 where
+    pub val : ℕ → W
+    pub var : ℕ → W
+
+  -- one act, where the made values of this visit hold what `fresh` says
+  abbrev pub do-act : (ℕ → W) → Act → Mem → Mem
+  do-act fresh (makes x) m = record { val = put x (fresh x) (m .val); var = m .var }
+  do-act fresh (gives v x) m = record { val = m .val; var = put v (m .val (res x)) (m .var) }
+  do-act fresh (uses v x) m = m
+
+  abbrev pub do-acts : (ℕ → W) → List Act → Mem → Mem
+  do-acts fresh [] m = m
+  do-acts fresh (a ∷ us) m = do-acts fresh us (do-act fresh a m)
+
+  -- the parameters take all arguments at once: each is read from the old values
+  abbrev pub bring : List ℕ → List ℕ → (ℕ → W) → ℕ → W
+  bring [] us old y = old y
+  bring (x ∷ xs) [] old y = old y
+  bring (x ∷ xs) (a ∷ us) old y = cond (eqb y x) (old (res a)) (bring xs us old y)
+
+  -- the zeros of block b are set: what a value of this sort, type and home holds then, where it held w
+  abbrev pub zeroed : ℕ → W → ℕ → ℕ → Sort → W
+  zeroed b w type home nought = cond (eqb home b) (null type) w
+  zeroed b w type home made = w
+  zeroed b w type home param = w
+
+  abbrev pub zeros-set : ℕ → (ℕ → W) → ℕ → W
+  zeros-set b old y = let i = t .form .info y in zeroed b (old y) (i .type) (i .home) (i .sort)
+
+  -- entering block b with the arguments as
+  abbrev pub enter : ℕ → List ℕ → Mem → Mem
+  enter b us m = record { val = zeros-set b (bring (t .form .params b) us (m .val)); var = m .var }
+
+  -- A path from block 0: the blocks before, the block now, and what is held where its calls begin. `fresh n` is what the made values hold at the
+  -- visit that comes after n others, `any` what a value not yet set holds.
+  pub data At (fresh : ℕ → ℕ → W) (any : ℕ → W) : List ℕ → ℕ → Mem → Type 0 where
+    start : At fresh any [] 0 (record { val = zeros-set 0 any; var = λ v. null (type-of (t .graph) v) })
+    go : {bs : List ℕ} {p : ℕ} {m : Mem} (i : ℕ) → At fresh any bs p m → i < length (t .graph .dests p)
+        → At fresh any (p ∷ bs) (getD (t .graph .dests p) i 0)
+        (enter (getD (t .graph .dests p) i 0) (t .form .args p i) (do-acts (fresh (length bs)) (acts p (t .done)) m))
+
+  -- each use's answer, aliases resolved, holds at that use what its variable last received, or zero
+  abbrev pub Faithful : Type 0
+  Faithful = (fresh : ℕ → ℕ → W) (any : ℕ → W) (bs : List ℕ) (b : ℕ) (m : Mem) → At fresh any bs b m
+      → (before after : List Act) (v x : ℕ) → acts b (t .done) ≡ before ++ uses v x ∷ after
+      → do-acts (fresh (length bs)) before m .val (res x) ≡ do-acts (fresh (length bs)) before m .var v
+
+abbrev pub Fed : State → Type 0
+Fed t = (p i : ℕ) → i < length (t .graph .dests p) → length (t .form .args p i) ≡ length (t .form .params (getD (t .graph .dests p) i 0))
+
+-- Demand 3.
+abbrev pub Demand-3 : Type 1
+Demand-3 = (cs : List Call) → Supposed (session cs)
+    → ((W : Type 0) (null : ℕ → W) → Faithful W null (session cs)) × Fed (session cs)

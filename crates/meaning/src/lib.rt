@@ -1,0 +1,1 @@
+// Why the definition is right. This crate has no code: specs/ states, proofs/ proves.
