@@ -70,9 +70,22 @@ module _ (g : Graph) where
   abbrev pub with-sealed : (Block → Bool) → Graph
   with-sealed new = graph call blocks types branch dests preds new
 
-abbrev pub form : ℕ → ℕ → (Value → Info) → (Value → Value) → (Block → List Value) → (Block → ℕ → List Value) → (Block → List (Variable × Value))
-    → (Variable → Block → Option Value) → (Variable → Block → Option Value) → List (ℕ × Block) → List Block → Form
-form n mk i t ps us ws en ow zs pl = record { next = n; makes = mk; info = i; target = t; params = ps; args = us; pending = ws; entry = en; own = ow; zeros = zs; placed = pl }
+abbrev pub form : ℕ → ℕ → (Value → Info) → (Value → Value) → (Block → List Value) → (Block → ℕ → List Value)
+    → (Block → List (Variable × Value)) → (Variable → Block → Option Value) → (Variable → Block → Option Value)
+    → List (ℕ × Block) → List Block → Form
+form n mk i t ps us ws en ow zs pl = record {
+  next = n;
+  makes = mk;
+  info = i;
+  target = t;
+  params = ps;
+  args = us;
+  pending = ws;
+  entry = en;
+  own = ow;
+  zeros = zs;
+  placed = pl;
+}
 
 module _ (s : Form) where
   open Form s using (next, makes, info, target, params, args, pending, entry, own, zeros, placed)

@@ -1,5 +1,5 @@
--- Reading a variable, and settling a parameter: Braun and others, algorithms 2 to 4, with the departures of document 01.
--- Assumes nothing.
+-- Reading and writing a variable, settling a parameter: Braun and others, algorithms 1 to 4.
+-- P1 to P6 mark where the crate departs from the paper; docs/DIFFERENCES.md has them with their reasons. Assumes nothing.
 use Prim.Native.Nat.{ℕ, zero, suc, _+_}
 use mathlib.Core.Bool.{Bool, true, false, _&&_}
 use mathlib.Core.Option.{Option, none, some}
@@ -7,13 +7,14 @@ use mathlib.Core.List.{List, [], _∷_, _++_, map}
 use lib.Dec.{eqb}
 use lib.ListN.{getD}
 use Rattle.definition.specs.Base.{Block, Variable, Value, _=?_, if_then_else_, put, put₂, _∷ʳ_, has, every, without, before}
-use Rattle.definition.specs.Form.{Graph, Form, Info, Sort, made, param, nought, def, with-next, with-info, with-target, with-params, with-args, with-pending, with-entry, with-own, with-zeros, with-placed}
+use Rattle.definition.specs.Form.{Graph, Form, Info, Sort, made, param, nought, def, with-next, with-info, with-target}
+use Rattle.definition.specs.Form.{with-params, with-args, with-pending, with-entry, with-own, with-zeros, with-placed}
 
 -- a change of the form, with the value that it answers
 abbrev pub Got : Type 0
 Got = Value × Form
 
--- follow alias targets, at most n links
+-- Follow alias targets to a value that is its own target. In a session's form as many links as there are values always suffice.
 abbrev pub follow : ℕ → (Value → Value) → Value → Value
 follow zero t x = x
 follow (suc n) t x = elim (t x =? x) [ true ↦ x | false ↦ follow n t (t x) ]
@@ -25,14 +26,17 @@ resolve s x = follow (s .next) (s .target) x
 abbrev pub type-of : Graph → Variable → ℕ
 type-of g v = getD (g .types) v 0
 
--- writeVariable
+-- ---- small changes
+
+-- writeVariable: b defines v as x
 abbrev pub write : Variable → Block → Value → Form → Form
 write v b x s = with-own s (put₂ v b (some x) (s .own))
 
--- x stands for v where b begins; where each of bs begins
+-- x stands for v where b begins
 abbrev pub mark-one : Variable → Value → Block → Form → Form
 mark-one v x b s = with-entry s (put₂ v b (some x) (s .entry))
 
+-- x stands for v where each of these blocks begins
 abbrev pub mark : Variable → Value → List Block → Form → Form
 mark v x [] s = s
 mark v x (b ∷ bs) s = mark-one v x b (mark v x bs s)
@@ -47,13 +51,15 @@ set-params b xs s = with-params s (put b xs (s .params))
 abbrev pub set-pending : Block → List (Variable × Value) → Form → Form
 set-pending b ws s = with-pending s (put b ws (s .pending))
 
--- the parameter x of b becomes another name of y, and leaves b's list
+-- The parameter x of b becomes another name of y and leaves b's list; the others keep their order.
+-- P1: where the paper rewrites the uses of x, x stays where it is recorded, answered or passed on, as an alias.
 abbrev pub alias : Block → Value → Value → Form → Form
 alias b x y s = set-params b (without x (s .params b)) (with-target s (put x y (s .target)))
 
 abbrev pub place-block : Block → Form → Form
 place-block b s = with-placed s (if has b (s .placed) then s .placed else s .placed ∷ʳ b)
 
+-- call c added a zero in block b
 abbrev pub log-zero : ℕ → Block → Form → Form
 log-zero c b s = with-zeros s (s .zeros ∷ʳ (c, b))
 
@@ -65,33 +71,42 @@ new-param g v c s = let x = s .next in mark-one v x c (set-params c (s .params c
 abbrev pub wait : Variable → Block → Value → Form → Form
 wait v c x s = set-pending c (s .pending c ∷ʳ (v, x)) s
 
+-- ---- settling a parameter
+
 -- is b the destination at place i?
 abbrev pub is-dest : List Block → ℕ → Block → Bool
 is-dest [] i b = false
 is-dest (d ∷ ds) zero b = d =? b
 is-dest (d ∷ ds) (suc i) b = is-dest ds i b
 
--- the arguments us, with x appended at each destination of branch p, among ds, that is b
+-- The arguments us, with x appended at each destination of branch p, among ds, that is b.
+-- P2: the paper has one operand per predecessor; here each destination that names the block carries it.
 abbrev pub feed : Block → Block → Value → List Block → (Block → ℕ → List Value) → Block → ℕ → List Value
 feed p b x ds us q i = if q =? p && is-dest ds i b then us q i ∷ʳ x else us q i
 
--- each predecessor feeds its own result
+-- each predecessor feeds its own result, unresolved
 abbrev pub feed-all : Graph → Block → List Block → List Value → (Block → ℕ → List Value) → Block → ℕ → List Value
 feed-all g b [] rs us = us
 feed-all g b (p ∷ ps) [] us = us
 feed-all g b (p ∷ ps) (r ∷ rs) us = feed-all g b ps rs (feed p b r (g .dests p) us)
 
--- tryRemoveTrivialPhi: the parameter x of b, and its predecessors' results rs. The last argument is what is left of them, resolved and without x.
+-- tryRemoveTrivialPhi: the parameter x of b, its predecessors' results rs, and what is left of them, resolved and without x.
+-- P3: nothing left, the paper answers an undefined mark; here it is a zero of that type in b.
+-- P4: x removed, the paper tries the parameters again that took x; here they stay as they are.
 abbrev pub settle-left : Graph → Block → Value → List Value → Form → List Value → Got
 settle-left g b x rs s [] =
     let z = s .next in
     (z, alias b x z (make nought (s .info x .type) b (log-zero (g .call) b (place-block b s))))
-settle-left g b x rs s (y ∷ ys) = if every (eqb y) ys then (y, alias b x y s) else (x, with-args s (feed-all g b (g .preds b) rs (s .args)))
+settle-left g b x rs s (y ∷ ys) =
+    if every (eqb y) ys then (y, alias b x y s) else (x, with-args s (feed-all g b (g .preds b) rs (s .args)))
 
 abbrev pub settle : Graph → Block → Value → List Value → Form → Got
 settle g b x rs s = settle-left g b x rs s (without x (map (resolve s) rs))
 
--- the predecessor of a sealed block that has just one
+-- ---- the walk over single predecessors
+-- P5: the paper reads a single predecessor by recursion. Here that is a walk, which also ends on a ring of such blocks.
+
+-- the only predecessor, where a block is sealed and has just one
 abbrev pub only : Bool → List Block → Option Block
 only true (p ∷ []) = some p
 only true (p ∷ q ∷ ps) = none
@@ -101,7 +116,7 @@ only false ps = none
 abbrev pub single : Graph → Block → Option Block
 single g b = only (g .sealed b) (g .preds b)
 
--- A walk over single predecessors: the blocks that it passed, where it ended, and the definition met there.
+-- the blocks that a walk passed, where it ended, and the definition that it met there
 pub record Walk : Type 0 where
   pub passed : List Block
   pub end : Block
@@ -121,12 +136,14 @@ past rec s v b true q = stop b
 past rec s v b false none = stop b
 past rec s v b false (some p) = on-to rec b p (def s v p)
 
--- from b, which has no definition of v; `seen` was passed; at most n steps
+-- from b, which has no definition of v; `seen` was passed. One step more than there are blocks always suffices.
 abbrev pub walk : ℕ → Graph → Form → Variable → List Block → Block → Walk
 walk zero g s v seen b = stop b
 walk (suc n) g s v seen b = past (walk n g s v (b ∷ seen)) s v b (has b seen) (single g b)
 
+-- ---- reading
 -- Reading calls itself at each predecessor: that is `rec`.
+
 -- read each predecessor in turn
 abbrev pub read-all : (Block → Form → Got) → List Block → Form → List Value × Form
 read-all rec [] s = ([], s)
@@ -137,12 +154,13 @@ module _ (rec : Block → Form → Got) (g : Graph) where
   abbrev pub fill : Block → Value → Form → Got
   fill b x s = let q = read-all rec (g .preds b) s in settle g b x (q .0) (q .1)
 
-  -- the new parameter x of c, recorded too in the blocks bs: a sealed block reads its predecessors, another waits
+  -- The new parameter x of c: a sealed block reads its predecessors, another waits. Before that x is recorded in the blocks bs too.
+  -- P6: the paper records the settled value afterwards; here the parameter stays recorded.
   abbrev pub begin : Variable → Block → Value → List Block → Form → Bool → Got
   begin v c x bs s true = fill c x (mark v x bs s)
   begin v c x bs s false = (x, mark v x bs (wait v c x s))
 
-  -- readVariableRecursive, after the walk: over the blocks passed, to c, where a definition may have been met
+  -- readVariableRecursive, after the walk over the blocks `passed` to c, where a definition may have been met
   abbrev pub read-past : Variable → Form → List Block → Block → Option Value → Got
   read-past v s passed c (some x) = (x, mark v x passed s)
   read-past v s passed c none = begin v c (s .next) (before c passed) (new-param g v c s) (g .sealed c)
@@ -157,11 +175,11 @@ abbrev pub read : ℕ → Graph → Variable → Block → Form → Got
 read zero g v b s = (zero, s)
 read (suc n) g v b s = read-on (read n g v) g v b s (def s v b)
 
--- the depth that suffices: each level gives one more block a definition of v
+-- the depth that always suffices: each level gives one more block a definition of v
 abbrev pub depth : Graph → ℕ
 depth g = suc (g .blocks)
 
--- sealBlock: settle the pending variables in order. The block is marked sealed in g
+-- sealBlock: settle the pending variables in order, where g has the block marked as sealed
 abbrev pub settle-pending : Graph → Block → List (Variable × Value) → Form → Form
 settle-pending g b [] s = s
 settle-pending g b (w ∷ ws) s = settle-pending g b ws (fill (read (depth g) g (w .0)) g b (w .1) s .1)

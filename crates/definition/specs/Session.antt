@@ -8,7 +8,8 @@ use lib.ListN.{length, getD}
 use Rattle.entity.specs.Limits.{limits}
 use Rattle.entity.specs.Types.{type-count}
 use Rattle.definition.specs.Base.{Block, Variable, Value, _=?_, _<?_, _≤?_, if_then_else_, put, _∷ʳ_, has, any, position, upFrom}
-use Rattle.definition.specs.Form.{Graph, Form, Info, Sort, made, param, nought, graph, form, with-call, with-blocks, with-types, with-branch, with-dests, with-preds, with-sealed, with-makes}
+use Rattle.definition.specs.Form.{Graph, Form, made, graph, form, with-call, with-blocks, with-types, with-branch}
+use Rattle.definition.specs.Form.{with-dests, with-preds, with-sealed, with-makes}
 use Rattle.definition.specs.Read.{type-of, write, make, place-block, set-pending, read, depth, settle-pending}
 
 pub record Call : Type 0 where
@@ -55,12 +56,14 @@ but-last (x ∷ y ∷ ys) = x ∷ but-last (y ∷ ys)
 abbrev pub swap-out : Block → List Block → List Block
 swap-out p ps = but-last (map (λ q. if q =? p then last p ps else q) ps)
 
+-- is branch p declared to some block at present?
 abbrev pub declared-anywhere : Graph → Block → Bool
 declared-anywhere g p = any (λ b. has p (g .preds b)) (upFrom 0 (g .blocks))
 
 abbrev pub mark-sealed : Graph → Block → Graph
 mark-sealed g b = with-sealed g (put b true (g .sealed))
 
+-- sealBlock: b is marked first, then what waits there is settled
 abbrev pub seal-form : Graph → Form → Block → Form
 seal-form g s b = settle-pending (mark-sealed g b) b (s .pending b) (set-pending b [] s)
 
@@ -75,6 +78,7 @@ answered (d ∷ ds) zero = if d .asked .kind =? 6 && d .code =? 0 then some (d .
 answered (d ∷ ds) (suc i) = answered ds i
 
 module _ (g : Graph) (s : Form) where
+  -- what a call names is not there
   abbrev pub no-block : Block → Bool
   no-block b = g .blocks ≤? b
 
@@ -94,12 +98,14 @@ module _ (g : Graph) (s : Form) where
   abbrev pub added : Form → ℕ
   added s′ = length (s′ .zeros) - length (s .zeros)
 
+  -- kind 1: a known block changes nothing; block 0 is placed when declared
   abbrev pub declare-block : Block → Reply
   declare-block b =
       refuse 4 when limits .blocks ≤? b else
       refuse 5 when g .blocks <? b else
       if b <? g .blocks then ok b g s else ok b (with-blocks g (suc b)) (if b =? 0 then place-block 0 s else s)
 
+  -- kind 2
   abbrev pub declare-var : Variable → ℕ → Reply
   declare-var v ty =
       refuse 4 when limits .variables ≤? v else
@@ -108,6 +114,7 @@ module _ (g : Graph) (s : Form) where
       refuse 7 when (v <? length (g .types) && not (ty =? type-of g v)) else
       if v <? length (g .types) then ok v g s else ok v (with-types g (g .types ∷ʳ ty)) s
 
+  -- kind 3
   abbrev pub make-value : Block → ℕ → Reply
   make-value b ty =
       refuse 6 when (no-block b || no-type ty) else
@@ -115,27 +122,32 @@ module _ (g : Graph) (s : Form) where
       refuse 4 when limits .made ≤? s .makes else
       ok (s .next) g (make made ty b (place-block b (with-makes s (suc (s .makes)))))
 
+  -- kind 4: an alias is stored as it is
   abbrev pub define : Variable → Value → Block → Reply
   define v x b =
       refuse 6 when (no-var v || no-value x || no-block b) else
       refuse 7 when not (s .info x .type =? type-of g v) else
       ok x g (write v b x s)
 
+  -- kind 5: the value is what an earlier accepted use answered
   abbrev pub define-answer : Variable → Block → Option Value → Reply
   define-answer v b (some x) = define v x b
   define-answer v b none = no 6
 
+  -- kind 6
   abbrev pub use-var : Variable → Block → Reply
   use-var v b =
       refuse 6 when (no-var v || no-block b) else
       (let r = read (depth g) g v b s in ok (r .0) g (r .1))
 
+  -- kind 7: a branch bears its block's number
   abbrev pub new-branch : Block → Reply
   new-branch b =
       refuse 6 when no-block b else
       refuse 9 when g .branch b else
       ok b (with-branch g (put b true (g .branch))) (place-block b s)
 
+  -- kind 8: a block may be named several times
   abbrev pub new-dest : Block → Block → Reply
   new-dest p b =
       refuse 6 when (no-branch p || no-block b) else
@@ -143,6 +155,7 @@ module _ (g : Graph) (s : Form) where
       refuse 10 when limits .dests ≤? length (g .dests p) else
       ok (length (g .dests p)) (with-dests g (put p (g .dests p ∷ʳ b) (g .dests))) s
 
+  -- kind 9: a branch that names a block several times is one predecessor of it
   abbrev pub add-pred : Block → Block → Reply
   add-pred b p =
       refuse 6 when (no-block b || no-branch p) else
@@ -151,6 +164,7 @@ module _ (g : Graph) (s : Form) where
       refuse 12 when has p (g .preds b) else
       ok (suc (length (g .preds b))) (with-preds g (put b (g .preds b ∷ʳ p) (g .preds))) s
 
+  -- kind 10
   abbrev pub drop-pred : Block → Block → Reply
   drop-pred b p =
       refuse 6 when (no-block b || no-branch p) else
@@ -158,18 +172,22 @@ module _ (g : Graph) (s : Form) where
       refuse 13 when not (has p (g .preds b)) else
       ok (position 0 p (g .preds b)) (with-preds g (put b (swap-out p (g .preds b)) (g .preds))) s
 
+  -- kind 11
   abbrev pub seal : Block → Reply
   seal b =
       refuse 6 when no-block b else
       refuse 8 when g .sealed b else
       (let s′ = seal-form g s b in ok (added s′) (mark-sealed g b) s′)
 
+  -- kind 12: by block number, and sealed ones are skipped
   abbrev pub seal-all : Reply
   seal-all = let r = seal-each (upFrom 0 (g .blocks)) g s in ok (added (r .1)) (r .0) (r .1)
 
+  -- kind 13
   abbrev pub any-preds : Block → Reply
   any-preds b = refuse 6 when no-block b else ok (bit (not (length (g .preds b) =? 0))) g s
 
+  -- kind 14
   abbrev pub is-sealed : Block → Reply
   is-sealed b = refuse 6 when no-block b else ok (bit (g .sealed b)) g s
 
@@ -216,5 +234,6 @@ empty = record {
   done = [];
 }
 
+-- a session starts empty
 abbrev pub session : List Call → State
 session cs = run empty cs

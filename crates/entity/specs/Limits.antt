@@ -48,11 +48,11 @@ module _ (l : Limits) where
       + l .blocks * row-cells (l .dests) + l .blocks * row-cells pred-room
 
   -- the form's cells: counts of values and of made ones; target, sort, type and block of each value; blocks placed; the zeros' calls and blocks;
-  -- parameters; pending variables and their parameters; last definitions; arguments
+  -- parameters; pending variables; last definitions; arguments
   abbrev pub form-need : ℕ
   form-need =
       2 + 4 * value-room + row-cells pred-room + 2 * row-cells zero-room
-      + l .blocks * row-cells param-room + 2 * (l .blocks * row-cells param-room)
+      + l .blocks * row-cells param-room + l .blocks * row-cells param-room
       + l .variables * l .blocks + l .blocks * (l .dests * row-cells param-room)
 
   -- the work cells: two for each scheduled call, one for each result
