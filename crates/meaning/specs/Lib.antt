@@ -1,2 +1,3 @@
 pub mod Path
 pub mod Machine
+pub mod Causes
