@@ -25,6 +25,7 @@ pub mod Demand
 pub mod Sure
 pub mod Rooms
 pub mod Causes
+pub mod Chains
 pub mod Port
 pub mod Stored
 pub mod Steady
