@@ -76,7 +76,7 @@ module _ (s : Form) (tree : Tree (s .target) (s .next)) (closed : (x : ℕ) → 
       by true q below = here (in-targets x l) (target-at x l ∙ q)
       by false q below = on (in-targets x l) (subst (λ (k : ℕ). Ends (targets s) k (follow n (s .target) (s .target x))) (sym (target-at x l)) (below q))
 
-  chain-ends : (x : ℕ) → x < s .next → Ends (targets s) x (resolve s x)
+  pub chain-ends : (x : ℕ) → x < s .next → Ends (targets s) x (resolve s x)
   chain-ends x l = follow-ends (s .next) x l (root-is (s .target) (s .next) x tree)
 
 pub chains-end : (cs : List Call) (x : ℕ) → x < session cs .form .next → Ends (targets (session cs .form)) x (resolve (session cs .form) x)

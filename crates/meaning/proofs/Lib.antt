@@ -29,3 +29,4 @@ pub mod Chains
 pub mod Port
 pub mod Stored
 pub mod Steady
+pub mod Turns

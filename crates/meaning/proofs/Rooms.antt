@@ -23,7 +23,7 @@ use Rattle.meaning.proofs.Reading.{Sound, some-none}
 use Rattle.meaning.proofs.Sealing.{idle}
 use Rattle.meaning.proofs.Machine.{Has}
 use Rattle.meaning.proofs.Whole.{has-in, in-has}
-use Rattle.meaning.proofs.Heights.{Within, visit-within, run-within}
+use Rattle.meaning.proofs.Heights.{Within, run-within}
 use Rattle.meaning.proofs.Count.{heights}
 use Rattle.meaning.proofs.Fall.{seal-heights, use-within, seal-within, left, turn-falls, turns-end}
 use Rattle.meaning.proofs.Ranges.{Bounds, Ranged}
@@ -204,4 +204,4 @@ module _ (g : Graph) (G : Sound g) (B : Bounds g) where
   use-moment v lv b s lb h = moment v lv idle 0 (visit g v b [] [] s (def s v b))
       (visit-now g G B v lv 64 64 8192 4096 (le-trans (B .few) full) (le-trans (B .vars) full) idle 0 b [] [] s lb
       (record { kp = h .kp; inv = h .inv; ranged = h .ranged; load = h .load; busy = λ c z. inl refl; sane = tt; fits = tt }) (λ r i. absurd i))
-      (let w = use-within g G (B .eight) (B .few) v lv b s lb in visit-within g G v lv 576 513 b [] [] s lb tt (omega (arith, w .calls)) (omega (arith, w .both)))
+      (use-within g G (B .eight) (B .few) v lv b s lb)
