@@ -1,6 +1,7 @@
 pub mod Base
 pub mod Form
 pub mod Read
+pub mod Resolve
 pub mod Session
 pub mod Whole
 pub mod Calls

@@ -67,13 +67,11 @@ module _ (g : Graph) (G : Sound g) (eight : (p : ℕ) → length (g .dests p) �
   total : sum (λ c. length (g .preds c)) (g .blocks) ≤ 512
   total = omega (arith, few, preds-dests g G eight, sum-eight g G eight (g .blocks))
 
-  -- from the start of a use in b, and from the start of settling the parameter x of b, which has a definition of v
-  pub use-within : (b : ℕ) (s : Form) → b < g .blocks → Within g G v lv 577 513 (conf (look b ∷ []) [] s)
-  use-within b s lb = record {
-    low = (lb, tt);
-    calls = omega (arith, few, total, weigh-le g G eight (λ c. suc (length (g .preds c))) v s (g .blocks), sum-suc g G eight (λ c. length (g .preds c)) (g .blocks));
-    both = omega (arith, total, weigh-le g G eight (λ c. length (g .preds c)) v s (g .blocks));
-  }
+  -- from the first visit of a use in b on, and from the start of settling the parameter x of b, which has a definition of v
+  pub use-within : (b : ℕ) (s : Form) → b < g .blocks → Within g G v lv 576 513 (visit g v b [] [] s (def s v b))
+  use-within b s lb = visit-within g G v lv 576 513 b [] [] s lb tt
+      (omega (arith, few, total, weigh-le g G eight (λ c. suc (length (g .preds c))) v s (g .blocks), sum-suc g G eight (λ c. length (g .preds c)) (g .blocks)))
+      (omega (arith, total, weigh-le g G eight (λ c. length (g .preds c)) v s (g .blocks)))
 
   pub seal-within : (x b : ℕ) (s : Form) → b < g .blocks → Has (def s v b) → Within g G v lv 576 513 (conf (schedule g x b []) [] s)
   seal-within x b s lb q = record {

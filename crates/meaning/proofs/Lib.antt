@@ -11,6 +11,7 @@ pub mod Sealing
 pub mod Story
 pub mod Graphs
 pub mod Whole
+pub mod Causing
 pub mod Ranges
 pub mod Along
 pub mod Machine
@@ -23,6 +24,9 @@ pub mod Rest
 pub mod Demand
 pub mod Sure
 pub mod Rooms
+pub mod Causes
+pub mod Chains
 pub mod Port
 pub mod Stored
 pub mod Steady
+pub mod Turns

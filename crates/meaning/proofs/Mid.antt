@@ -16,7 +16,7 @@ use Rattle.meaning.specs.Machine.{Task, look, finish, Conf, conf, schedu
 use Rattle.meaning.specs.Path.{In}
 use Rattle.meaning.proofs.Maps.{same?, put-same, put-other, put-at, eqb-diff}
 use Rattle.meaning.proofs.Lists.{Nodup, PIn, nodup-without, without-in, without-none, put₂-at, put₂-other, here?}
-use Rattle.meaning.proofs.Inv.{Grow, pending, Inv, pending-par}
+use Rattle.meaning.proofs.Inv.{Grow, pending, Param, Inv, pending-par}
 use Rattle.meaning.proofs.Growing.{grown, grown-inv, grown-grow}
 use Rattle.meaning.proofs.Keeping.{false-true}
 use Rattle.meaning.proofs.Settle.{Settled, settled}
@@ -256,7 +256,7 @@ module _ (g : Graph) (G : Sound g) (B : Bounds g) (v : ℕ) (lv : v < length (g 
               by d q u i (inr j) = absurd (some-none (sym (put₂-other v c (some x) (s .entry) v d j) ∙ i) (or-none (s .own v d) (s .entry v d) q .1))
 
           set-ranged : Ranged g s₂
-          set-ranged = mark-ranged g v x (before c over) s₁ (more-ranged g s (h .ranged) v c ws lc (B .typed v lv) fresh blank quiet) (omega arith) (set-out .grow)
+          set-ranged = mark-ranged g v x (before c over) s₁ (more-ranged g s (h .ranged) v c ws lv lc (B .typed v lv) fresh blank quiet) (omega arith) (set-out .grow)
 
           set-somes : Somes s s₂
           set-somes w d o = mark-somes v x (before c over) s₁ w d (param-somes g G v lv c s w d o)
@@ -400,14 +400,14 @@ module _ (g : Graph) (G : Sound g) (B : Bounds g) (v : ℕ) (lv : v < length (g 
           here : PIn v x (pending g s (put b ((v, x) ∷ op₂ b) op₂) b)
           here = rw (seal, put-same b ((v, x) ∷ op₂ b) op₂) (inl (refl, refl))
 
-          lx : x < s .next
-          lx = h .inv .pars b x (pending-par g ⊥ s (h .kp) (put b ((v, x) ∷ op₂ b) op₂) (h .inv) v b x here) .below
+          par : Param g s b x
+          par = h .inv .pars b x (pending-par g ⊥ s (h .kp) (put b ((v, x) ∷ op₂ b) op₂) (h .inv) v b x here)
 
           d : Settled g ⊥ s (put b (op₂ b) (put b ((v, x) ∷ op₂ b) op₂)) x (settle g b x (reverse (take (length (g .preds b)) rs)) s)
           d = settled g ⊥ s (h .kp) (put b ((v, x) ∷ op₂ b) op₂) (h .inv) v b x (op₂ b) seal at qs (length-reverse (take n₂ rs) ∙ take-length n₂ (h .fits .0) rs (h .fits .1)) (λ z. absurd z) (G .nodup b)
 
           rng : Ranged g (settle g b x (reverse (take (length (g .preds b)) rs)) s .1) × (settle g b x (reverse (take (length (g .preds b)) rs)) s .0 < settle g b x (reverse (take (length (g .preds b)) rs)) s .1 .next)
-          rng = settle-ranged g s (h .ranged) b x (B .shut b seal) lx (h .inv .fresh (s .next) (omega arith)) qs (λ r i. low r (take-in n₂ rs r (reverse-in (take n₂ rs) r i)))
+          rng = settle-ranged g s (h .ranged) b x (B .shut b seal) par (h .inv .fresh (s .next) (omega arith)) qs (λ r i. low r (take-in n₂ rs r (reverse-in (take n₂ rs) r i)))
 
           back : put b (op₂ b) (put b ((v, x) ∷ op₂ b) op₂) ≡ op₂
           back = fun-ext (λ c. by c (same? c b))

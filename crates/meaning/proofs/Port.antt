@@ -1,4 +1,4 @@
--- What the code of the machine needs at each turn: the turns end with the recursion's result, each turn lowers a number, and there is room before
+-- What the code of the machine needs at each turn: the turns lead where the run ends, each turn lowers a number, and there is room before
 -- each cell is written. Assumes nothing.
 use Prim.Native.Nat.{ℕ, zero, suc, _+_, _*_, _<_, _≤_}
 use mathlib.Core.Path.{_≡_, refl, sym, ap, _∙_, subst}
@@ -11,18 +11,17 @@ use native.Mathlib.Omega.{arith}
 use native.Mathlib.Nat.{le-trans, not-suc-le-zero}
 use Rattle.definition.specs.Base.{put, orElse}
 use Rattle.definition.specs.Form.{Graph, Form, def}
-use Rattle.definition.specs.Read.{read, fill, depth}
 use Rattle.definition.specs.Session.{Call, State, session}
-use Rattle.meaning.specs.Machine.{Task, look, finish, Conf, conf, schedule, visit, turn, turns}
+use Rattle.meaning.specs.Machine.{Task, look, finish, Conf, conf, turn, turns}
 use Rattle.meaning.specs.Path.{In}
 use Rattle.meaning.proofs.Maps.{same?, put-same, put-other, put-at}
 use Rattle.meaning.proofs.Lists.{PIn}
 use Rattle.meaning.proofs.Inv.{Inv, pending, pending-par}
 use Rattle.meaning.proofs.Reading.{Sound, or-none}
-use Rattle.meaning.proofs.Sealing.{idle, shallow}
-use Rattle.meaning.proofs.Machine.{Has, Goes, there, on, does, fills}
+use Rattle.meaning.proofs.Sealing.{idle}
+use Rattle.meaning.proofs.Machine.{Goes, there, on}
 use Rattle.meaning.proofs.Heights.{Within, Low, run-within}
-use Rattle.meaning.proofs.Fall.{left, turn-falls, use-within, seal-within}
+use Rattle.meaning.proofs.Fall.{left, turn-falls}
 use Rattle.meaning.proofs.Ranges.{Bounds, Ranged}
 use Rattle.meaning.proofs.Mid.{Load, load-next, Mid, at-work, finishes, Sane}
 use Rattle.meaning.proofs.Rest.{Rest, at-head}
@@ -38,15 +37,16 @@ pub make-room : (t : State) → Always t → t .form .makes < 4096 → t .form .
 make-room t h l = let k = load-next 64 64 8192 4096 (t .form) 0 (h .safe .load) in omega (arith, k .0, l)
 
 module _ (g : Graph) (v : ℕ) where
+  pub idle-turn : (c : Conf) → c .tasks ≡ [] → turn g v (c .tasks) (c .results) (c .form) ≡ c
+  idle-turn c e = ap (λ (ts : List Task). turn g v ts (c .results) (c .form)) e ∙ ap (λ (ts : List Task). conf ts (c .results) (c .form)) (sym e)
+
   idle-turns : (n : ℕ) (c : Conf) → c .tasks ≡ [] → turns n g v c ≡ c
   idle-turns zero c e = refl
-  idle-turns (suc n) c e = ap (λ (ts : List Task). turns n g v (turn g v ts (c .results) (c .form))) e ∙ idle-turns n (conf [] (c .results) (c .form)) refl ∙ ap (λ (ts : List Task). conf ts (c .results) (c .form)) (sym e)
+  idle-turns (suc n) c e = ap (turns n g v) (idle-turn c e) ∙ idle-turns n c e
 
   idle-goes : {c d : Conf} → Goes g v c d → c .tasks ≡ [] → d ≡ c
   idle-goes there e = refl
-  idle-goes (on {c} {d} q) e =
-      let k : turn g v (c .tasks) (c .results) (c .form) ≡ c = ap (λ (ts : List Task). turn g v ts (c .results) (c .form)) e ∙ ap (λ (ts : List Task). conf ts (c .results) (c .form)) (sym e) in
-      idle-goes q (ap (λ (u : Conf). u .tasks) k ∙ e) ∙ k
+  idle-goes (on {c} {d} q) e = let k = idle-turn c e in idle-goes q (ap (λ (u : Conf). u .tasks) k ∙ e) ∙ k
 
 module _ (g : Graph) (G : Sound g) (v : ℕ) (lv : v < length (g .types)) where
   -- where a run ends, that many turns lead
@@ -63,19 +63,6 @@ module _ (g : Graph) (G : Sound g) (v : ℕ) (lv : v < length (g .types)) where
           let f = turn-falls g G v lv t ts (c .results) (c .form) (subst (λ (us : List Task). Low g G v lv us) k (w .low)) in
           let f′ : left g G v lv (turn g v (c .tasks) (c .results) (c .form)) < left g G v lv c = subst (λ (us : List Task). left g G v lv (turn g v us (c .results) (c .form)) < left g G v lv (conf us (c .results) (c .form))) (sym k) f in
           below m (run-within g G v lv 1 a b c w) (omega (arith, l, f′))
-
-  module _ (B : Bounds g) where
-    -- a use, and the settling of one parameter, in turns
-    pub use-turns : (b : ℕ) (s : Form) → b < g .blocks → (n : ℕ) → 577 ≤ n → turns n g v (conf (look b ∷ []) [] s) ≡ conf [] (read (depth g) g v b s .0 ∷ []) (read (depth g) g v b s .1)
-    use-turns b s lb n l =
-        let w = use-within g G (B .eight) (B .few) v lv b s lb in
-        goes-turns (does g G v lv (depth g) b s lb (shallow v s g) [] []) refl 577 513 n w (le-trans (w .calls) l)
-
-    pub seal-turns : (b x : ℕ) (s : Form) → b < g .blocks → Has (def s v b) → (n : ℕ) → 576 ≤ n
-        → turns n g v (conf (schedule g x b []) [] s) ≡ conf [] (fill (read (depth g) g v) g b x s .0 ∷ []) (fill (read (depth g) g v) g b x s .1)
-    seal-turns b x s lb q n l =
-        let w = seal-within g G (B .eight) (B .few) v lv x b s lb q in
-        goes-turns (fills g G v lv (depth g) b x s (shallow v s g) [] []) refl 576 513 n w (le-trans (w .calls) l)
 
 -- at one moment
 module _ (g : Graph) (G : Sound g) (B : Bounds g) (v : ℕ) (lv : v < length (g .types)) (rest : ℕ → List (ℕ × ℕ)) (k : ℕ) (rs : List ℕ) (s : Form) where

@@ -12,13 +12,15 @@ use native.Mathlib.Nat.{le-trans}
 use Rattle.definition.specs.Base.{put, put₂, without, orElse, every, has}
 use Rattle.definition.specs.Form.{Graph, Form, Info, Sort, made, param, nought, def, with-args, with-entry, with-placed}
 use Rattle.definition.specs.Read.{Got, resolve, follow, type-of, mark-one, mark, make, alias, place-block, log-zero, is-dest, feed, feed-all, settle-left, settle}
+use Rattle.meaning.specs.Causes.{Caused}
 use Rattle.meaning.specs.Path.{In}
 use Rattle.meaning.proofs.Maps.{same?, put-same, put-other, put-at, some-inj}
 use Rattle.meaning.proofs.Lists.{Nodup, nodup-snoc, in-left, in-right, in-cases, without-in, put₂-at, put₂-other, here?}
-use Rattle.meaning.proofs.Inv.{Grow, in-one}
+use Rattle.meaning.proofs.Inv.{Grow, Param, in-one, nought-param}
 use Rattle.meaning.proofs.Keeping.{false-true}
 use Rattle.meaning.proofs.Settle.{map-in}
 use Rattle.meaning.proofs.Whole.{has-in}
+use Rattle.meaning.proofs.Causing.{new-caused, alias-keeps, alias-caused}
 
 -- the graph
 pub record Bounds (g : Graph) : Type 0 where
@@ -40,7 +42,7 @@ pub record Ranged (g : Graph) (s : Form) : Type 0 where
   pub owns : (w b e : ℕ) → s .own w b ≡ some e → (w < length (g .types)) × (b < g .blocks) × (e < s .next)
   pub args : (p i a : ℕ) → In a (s .args p i) → a < s .next
   pub still : (b : ℕ) → g .sealed b ≡ true → s .pending b ≡ []
-  pub named : (b x : ℕ) → In x (s .params b) → (w : ℕ) × (s .entry w b ≡ some x)
+  pub caused : Caused g s
   pub zeros : (z : ℕ × ℕ) → In z (s .zeros) → (z .0 ≤ g .call) × (z .1 < g .blocks)
   pub once : Nodup (s .placed)
   pub placed : (b : ℕ) → In b (s .placed) → b < g .blocks
@@ -127,7 +129,7 @@ module _ (g : Graph) where
     owns = h .owns;
     args = h .args;
     still = h .still;
-    named = λ b y i. let k = h .named b y i in (k .0, gr .entry (k .0) b y (k .1));
+    caused = record { param-of = λ y l q. let k = h .caused .param-of y l q in (k .0, k .1, gr .entry (k .0) (s .info y .home) y (k .2)); zero-of = h .caused .zero-of };
     zeros = h .zeros;
     once = h .once;
     placed = h .placed;
@@ -138,7 +140,7 @@ module _ (g : Graph) where
       on w b e (inr q) = subst (λ (j : ℕ). j < s .next) (sym q) lx
 
   -- a new parameter for v on c, where this waits afterwards
-  module _ (s : Form) (h : Ranged g s) (v c : ℕ) (ws : ℕ → List (ℕ × ℕ)) (lc : c < g .blocks) (ty : type-of g v < 6) (fresh : s .target (s .next) ≡ s .next)
+  module _ (s : Form) (h : Ranged g s) (v c : ℕ) (ws : ℕ → List (ℕ × ℕ)) (lv : v < length (g .types)) (lc : c < g .blocks) (ty : type-of g v < 6) (fresh : s .target (s .next) ≡ s .next)
       (blank : s .entry v c ≡ none) (quiet : (b : ℕ) → g .sealed b ≡ true → ws b ≡ []) where
     abbrev new : Info
     new = record { sort = param; type = type-of g v; home = c }
@@ -167,7 +169,7 @@ module _ (g : Graph) where
       owns = λ w b e q. let k = h .owns w b e q in (k .0, k .1, omega (arith, k .2));
       args = λ p i a k. omega (arith, h .args p i a k);
       still = quiet;
-      named = λ b x i. named b x i (same? b c);
+      caused = new-caused g s (h .caused) more new refl refl (λ w b e q. old w b e q (here? w v b c)) (λ x n. refl) (λ _. (v, lv, put₂-at v c (some (s .next)) (s .entry) v c refl refl)) (λ q. absurd (nought-param q refl));
       zeros = h .zeros;
       once = h .once;
       placed = h .placed;
@@ -189,29 +191,12 @@ module _ (g : Graph) where
         entries w b e q (inl k) = subst (λ (j : ℕ). j < suc (s .next)) (some-inj (sym (put₂-at v c (some (s .next)) (s .entry) w b (k .0) (k .1)) ∙ q)) (omega arith)
         entries w b e q (inr n) = let k = h .entries w b e (sym (put₂-other v c (some (s .next)) (s .entry) w b n) ∙ q) in omega (arith, k)
 
-        old : (b x : ℕ) → In x (s .params b) → (w : ℕ) × (put₂ v c (some (s .next)) (s .entry) w b ≡ some x)
-        old b x i = let k = h .named b x i in (k .0, on (k .0) (k .1) (here? (k .0) v b c))
-          where
-            on : (w : ℕ) → s .entry w b ≡ some x → ((w ≡ v) × (b ≡ c)) ⊎ (w ≡ v → b ≡ c → ⊥) → put₂ v c (some (s .next)) (s .entry) w b ≡ some x
-            on w q (inl k) = absurd (Option·none-ne-some x (sym blank ∙ sym (ap (λ (i : ℕ). s .entry i b) (k .0) ∙ ap (λ (i : ℕ). s .entry v i) (k .1)) ∙ q))
-            on w q (inr n) = put₂-other v c (some (s .next)) (s .entry) w b n ∙ q
-
-        named : (b x : ℕ) → In x (more .params b) → (b ≡ c) ⊎ (b ≢ c) → (w : ℕ) × (put₂ v c (some (s .next)) (s .entry) w b ≡ some x)
-        named b x i (inl q) = on (in-cases x (s .params c) (s .next ∷ []) (subst (λ (l : List ℕ). In x l) (put-at c (s .params c ++ s .next ∷ []) (s .params) b q) i))
-          where
-            on : In x (s .params c) ⊎ In x (s .next ∷ []) → (w : ℕ) × (put₂ v c (some (s .next)) (s .entry) w b ≡ some x)
-            on (inl j) = old b x (subst (λ (k : ℕ). In x (s .params k)) (sym q) j)
-            on (inr j) = (v, put₂-at v c (some (s .next)) (s .entry) v b refl q ∙ ap {B = Option ℕ} some (sym (in-one x (s .next) j)))
-        named b x i (inr n) = old b x (subst (λ (l : List ℕ). In x l) (put-other c (s .params c ++ s .next ∷ []) (s .params) b n) i)
+        old : (w b e : ℕ) → s .entry w b ≡ some e → ((w ≡ v) × (b ≡ c)) ⊎ (w ≡ v → b ≡ c → ⊥) → put₂ v c (some (s .next)) (s .entry) w b ≡ some e
+        old w b e q (inl k) = absurd (Option·none-ne-some e (sym blank ∙ sym (ap (λ (i : ℕ). s .entry i b) (k .0) ∙ ap (λ (i : ℕ). s .entry v i) (k .1)) ∙ q))
+        old w b e q (inr n) = put₂-other v c (some (s .next)) (s .entry) w b n ∙ q
 
   -- settling the parameter x of b
-  module _ (s : Form) (h : Ranged g s) (b x : ℕ) (lb : b < g .blocks) (lx : x < s .next) (fresh : s .target (s .next) ≡ s .next) (rs : List ℕ) (low : (r : ℕ) → In r rs → r < s .next) where
-    less-named : (y : ℕ) (c z : ℕ) → (c ≡ b) ⊎ (c ≢ b) → In z (put b (without x (s .params b)) (s .params) c) → (w : ℕ) × (s .entry w c ≡ some z)
-    less-named y c z (inl q) i =
-        let j = without-in x (s .params b) z (subst (λ (l : List ℕ). In z l) (put-at b (without x (s .params b)) (s .params) c q) i) in
-        h .named c z (subst (λ (k : ℕ). In z (s .params k)) (sym q) (j .0))
-    less-named y c z (inr n) i = h .named c z (subst (λ (l : List ℕ). In z l) (put-other b (without x (s .params b)) (s .params) c n) i)
-
+  module _ (s : Form) (h : Ranged g s) (b x : ℕ) (lb : b < g .blocks) (par : Param g s b x) (fresh : s .target (s .next) ≡ s .next) (rs : List ℕ) (low : (r : ℕ) → In r rs → r < s .next) where
     abbrev Fine : Got → Type 0
     Fine r = Ranged g (r .1) × (r .0 < r .1 .next)
 
@@ -225,7 +210,8 @@ module _ (g : Graph) where
         owns = λ w c e q. let k = h .owns w c e q in (k .0, k .1, omega (arith, k .2));
         args = λ p i a k. omega (arith, h .args p i a k);
         still = h .still;
-        named = λ c z i. less-named 0 c z (same? c b) i;
+        caused = new-caused g s (h .caused) (settle-left g b x rs s [] .1) (record { sort = nought; type = s .info x .type; home = b }) refl refl (λ w c e q. q) (alias-keeps g s (h .caused) x (s .next) (par .root)) (λ q. absurd (nought-param refl q))
+            (λ _. (x, par .below, par .sort, par .home, put-same x (s .next) (s .target)));
         zeros = λ z i. zs z (in-cases z (s .zeros) ((g .call, b) ∷ []) i);
         once = placed-once b (s .placed) (h .once);
         placed = placed-in b (g .blocks) (s .placed) lb (h .placed);
@@ -246,7 +232,7 @@ module _ (g : Graph) where
         homes y l (inr n) = subst (λ (j : Info). j .home < g .blocks) (sym (put-other (s .next) (record { sort = nought; type = s .info x .type; home = b }) (s .info) y n)) (h .homes y (omega arith))
 
         types : (y : ℕ) → y < suc (s .next) → (y ≡ s .next) ⊎ (y ≢ s .next) → put (s .next) (record { sort = nought; type = s .info x .type; home = b }) (s .info) y .type < 6
-        types y l (inl e) = subst (λ (j : Info). j .type < 6) (sym (put-at (s .next) (record { sort = nought; type = s .info x .type; home = b }) (s .info) y e)) (h .types x lx)
+        types y l (inl e) = subst (λ (j : Info). j .type < 6) (sym (put-at (s .next) (record { sort = nought; type = s .info x .type; home = b }) (s .info) y e)) (h .types x (par .below))
         types y l (inr n) = subst (λ (j : Info). j .type < 6) (sym (put-other (s .next) (record { sort = nought; type = s .info x .type; home = b }) (s .info) y n)) (h .types y (omega arith))
 
         zs : (z : ℕ × ℕ) → In z (s .zeros) ⊎ In z ((g .call, b) ∷ []) → (z .0 ≤ g .call) × (z .1 < g .blocks)
@@ -264,7 +250,7 @@ module _ (g : Graph) where
         owns = h .owns;
         args = h .args;
         still = h .still;
-        named = λ c z i. less-named 0 c z (same? c b) i;
+        caused = alias-caused g s (h .caused) x y (par .root) b;
         zeros = h .zeros;
         once = h .once;
         placed = h .placed;
@@ -286,12 +272,12 @@ module _ (g : Graph) where
         owns = h .owns;
         args = λ p i a k. on p i a (feeds-in g b (g .preds b) rs (s .args) p i a k);
         still = h .still;
-        named = h .named;
+        caused = record { param-of = h .caused .param-of; zero-of = h .caused .zero-of };
         zeros = h .zeros;
         once = h .once;
         placed = h .placed;
       },
-      lx,
+      par .below,
     )
       where
         on : (p i a : ℕ) → In a (s .args p i) ⊎ In a rs → a < s .next

@@ -131,7 +131,7 @@ module _ (N M A Z : ℕ) (eN : 64 ≤ N) (eM : 64 ≤ M) where
         owns = h .ranged .owns;
         args = h .ranged .args;
         still = λ c z. still c z (same? c b);
-        named = h .ranged .named;
+        caused = record { param-of = h .ranged .caused .param-of; zero-of = h .ranged .caused .zero-of };
         zeros = h .ranged .zeros;
         once = h .ranged .once;
         placed = h .ranged .placed;

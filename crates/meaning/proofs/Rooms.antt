@@ -23,7 +23,7 @@ use Rattle.meaning.proofs.Reading.{Sound, some-none}
 use Rattle.meaning.proofs.Sealing.{idle}
 use Rattle.meaning.proofs.Machine.{Has}
 use Rattle.meaning.proofs.Whole.{has-in, in-has}
-use Rattle.meaning.proofs.Heights.{Within, visit-within, run-within}
+use Rattle.meaning.proofs.Heights.{Within, run-within}
 use Rattle.meaning.proofs.Count.{heights}
 use Rattle.meaning.proofs.Fall.{seal-heights, use-within, seal-within, left, turn-falls, turns-end}
 use Rattle.meaning.proofs.Ranges.{Bounds, Ranged}
@@ -33,8 +33,15 @@ use Rattle.meaning.proofs.Sure.{Safe, Sure, sure, write-somes, full, Al
 
 -- of one form
 module _ (g : Graph) (G : Sound g) (B : Bounds g) (s : Form) (kp : ℕ → List ℕ) (op : ℕ → List (ℕ × ℕ)) (h : Inv g ⊥ s kp op) (R : Ranged g s) where
+  -- a parameter stands for a variable
+  of-variable : (b x : ℕ) → In x (s .params b) → (w : ℕ) × (w < length (g .types)) × (s .entry w b ≡ some x)
+  of-variable b x i =
+      let r = h .pars b x i in
+      let k = R .caused .param-of x (r .below) (r .sort) in
+      (k .0, k .1, sym (ap (s .entry (k .0)) (r .home)) ∙ k .2)
+
   pub params-room : (b : ℕ) → length (s .params b) ≤ length (g .types)
-  params-room b = pigeon (λ w. s .entry w b) (length (g .types)) (s .params b) (h .nodup b) (λ x i. let k = R .named b x i in (k .0, h .known (k .0) b x (k .1) .0, k .1))
+  params-room b = pigeon (λ w. s .entry w b) (length (g .types)) (s .params b) (h .nodup b) (of-variable b)
 
   -- before a new parameter
   pub param-room : (v c : ℕ) → v < length (g .types) → s .entry v c ≡ none → suc (length (s .params c)) ≤ length (g .types)
@@ -43,8 +50,8 @@ module _ (g : Graph) (G : Sound g) (B : Bounds g) (s : Form) (kp : ℕ → List 
       by : (x : ℕ) → In x (s .next ∷ s .params c) → (w : ℕ) × (w < length (g .types)) × (put v (some (s .next)) (λ w. s .entry w c) w ≡ some x)
       by x (inl e) = (v, lv, put-same v (some (s .next)) (λ w. s .entry w c) ∙ ap {B = Option ℕ} some (sym e))
       by x (inr i) =
-          let k = R .named c x i in
-          (k .0, h .known (k .0) c x (k .1) .0, put-other v (some (s .next)) (λ w. s .entry w c) (k .0) (λ q. some-none (k .1) (ap (λ (u : ℕ). s .entry u c) q ∙ blank)) ∙ k .1)
+          let k = of-variable c x i in
+          (k .0, k .1, put-other v (some (s .next)) (λ w. s .entry w c) (k .0) (λ q. some-none (k .2) (ap (λ (u : ℕ). s .entry u c) q ∙ blank)) ∙ k .2)
 
   snds-length : (l : List (ℕ × ℕ)) → length (snds l) ≡ length l
   snds-length [] = refl
@@ -197,4 +204,4 @@ module _ (g : Graph) (G : Sound g) (B : Bounds g) where
   use-moment v lv b s lb h = moment v lv idle 0 (visit g v b [] [] s (def s v b))
       (visit-now g G B v lv 64 64 8192 4096 (le-trans (B .few) full) (le-trans (B .vars) full) idle 0 b [] [] s lb
       (record { kp = h .kp; inv = h .inv; ranged = h .ranged; load = h .load; busy = λ c z. inl refl; sane = tt; fits = tt }) (λ r i. absurd i))
-      (let w = use-within g G (B .eight) (B .few) v lv b s lb in visit-within g G v lv 576 513 b [] [] s lb tt (omega (arith, w .calls)) (omega (arith, w .both)))
+      (use-within g G (B .eight) (B .few) v lv b s lb)

@@ -24,6 +24,7 @@ use Rattle.meaning.proofs.Machine.{Has, Somes}
 use Rattle.meaning.proofs.Room.{waiting}
 use Rattle.meaning.proofs.Whole.{Whole, Fine, fine, ltb-no, leb-no, or-no, not-no}
 use Rattle.meaning.proofs.Demand.{Good, empty-good, after-good}
+use Rattle.meaning.proofs.Causing.{new-caused}
 use Rattle.meaning.proofs.Ranges.{Bounds, Ranged, placed-once, placed-in}
 use Rattle.meaning.proofs.Mid.{Load, lack-all, all-fewer, all-le, load-same, load-next}
 use Rattle.meaning.proofs.Rest.{Rest, read-rest, seal-rest, bounds-sealed, All-rest, each-rest, up-below}
@@ -38,7 +39,7 @@ wider-ranged g g′ s h bl ty ca se = record {
   owns = λ w b e q. let k = h .owns w b e q in (le-trans (k .0) ty, le-trans (k .1) bl, k .2);
   args = h .args;
   still = λ b z. h .still b (sym (se b) ∙ z);
-  named = h .named;
+  caused = record { param-of = λ x l q. let k = h .caused .param-of x l q in (k .0, le-trans (k .1) ty, k .2); zero-of = h .caused .zero-of };
   zeros = λ z i. let k = h .zeros z i in (le-trans (k .0) ca, le-trans (k .1) bl);
   once = h .once;
   placed = λ b i. le-trans (h .placed b i) bl;
@@ -53,11 +54,17 @@ place-ranged g s b h lb = record {
   owns = h .owns;
   args = h .args;
   still = h .still;
-  named = h .named;
+  caused = record { param-of = h .caused .param-of; zero-of = h .caused .zero-of };
   zeros = h .zeros;
   once = placed-once b (s .placed) (h .once);
   placed = placed-in b (g .blocks) (s .placed) lb (h .placed);
 }
+
+made-param : _≡_ {A = Sort} made param → ⊥
+made-param q = let z : _≡_ {A = ℕ} 0 1 = cc in omega arith
+
+made-nought : _≡_ {A = Sort} made nought → ⊥
+made-nought q = let z : _≡_ {A = ℕ} 0 1 = cc in omega arith
 
 pub make-ranged : (g : Graph) (s : Form) (m y b : ℕ) → Ranged g s → b < g .blocks → y < 6 → s .target (s .next) ≡ s .next → Ranged g (make made y b (place-block b (with-makes s m)))
 make-ranged g s m y b h lb ly fresh = record {
@@ -68,7 +75,7 @@ make-ranged g s m y b h lb ly fresh = record {
   owns = λ w c e q. let k = h .owns w c e q in (k .0, k .1, omega (arith, k .2));
   args = λ p i a k. omega (arith, h .args p i a k);
   still = h .still;
-  named = h .named;
+  caused = new-caused g s (h .caused) (make made y b (place-block b (with-makes s m))) (record { sort = made; type = y; home = b }) refl refl (λ w c e q. q) (λ x n. refl) (λ q. absurd (made-param q)) (λ q. absurd (made-nought q));
   zeros = h .zeros;
   once = placed-once b (s .placed) (h .once);
   placed = placed-in b (g .blocks) (s .placed) lb (h .placed);
@@ -95,7 +102,7 @@ write-ranged g s v b x h lv lb lx = record {
   owns = λ w c e q. owns w c e q (here? w v c b);
   args = h .args;
   still = h .still;
-  named = h .named;
+  caused = record { param-of = h .caused .param-of; zero-of = h .caused .zero-of };
   zeros = h .zeros;
   once = h .once;
   placed = h .placed;
@@ -133,6 +140,10 @@ answered-last [] d zero x q = by (eqb (d .asked .kind) 6 && eqb (d .code) 0) q
 answered-last [] d (suc i) x q = inl q
 answered-last (e ∷ ds) d zero x q = inl q
 answered-last (e ∷ ds) d (suc i) x q = answered-last ds d i x q
+
+pub and-both : (a b : Bool) → a && b ≡ true → (a ≡ true) × (b ≡ true)
+and-both true b e = (refl, e)
+and-both false b e = absurd (false-true refl e)
 
 module _ (N M A Z : ℕ) (eN : 64 ≤ N) (eM : 64 ≤ M) where
   pub record Safe (g : Graph) (s : Form) : Type 0 where
@@ -368,11 +379,6 @@ module _ (N M A Z : ℕ) (eN : 64 ≤ N) (eM : 64 ≤ M) where
     load = h .load;
   }
 
-  and-both : (a b : Bool) → a && b ≡ true → (a ≡ true) × (b ≡ true)
-  and-both true true e = (refl, refl)
-  and-both true false e = absurd (false-true refl e)
-  and-both false b e = absurd (false-true refl e)
-
   module _ (t : State) (c : Call) (h : Sure t) where
     after-whole : (r : Reply) → Fine ⊥ (t .graph) (t .form) (t .done) (h .whole) c r → Good ⊥ (after t c r)
     after-whole r f = after-good ⊥ t c (h .whole) r f
@@ -426,7 +432,7 @@ module _ (N M A Z : ℕ) (eN : 64 ≤ N) (eM : 64 ≤ M) where
         owns = λ w b e q. absurd (some-none q refl);
         args = λ p i a k. absurd k;
         still = λ b z. refl;
-        named = λ b x i. absurd i;
+        caused = record { param-of = λ x l. absurd (not-suc-le-zero l); zero-of = λ z l. absurd (not-suc-le-zero l) };
         zeros = λ z i. absurd i;
         once = tt;
         placed = λ b i. absurd i;

@@ -1,2 +1,4 @@
 pub mod Path
 pub mod Machine
+pub mod Causes
+pub mod Turns
