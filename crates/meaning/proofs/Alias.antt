@@ -1,15 +1,15 @@
 -- Alias chains: following targets ends, and linking a root to another root moves exactly the values that ended there.
 -- Assumes nothing.
-use Prim.Native.Nat.{ℕ, zero, suc, _+_, _<_, _≤_}
+use Prim.Native.Nat.{ℕ, zero, suc, _<_, _≤_}
 use mathlib.Core.Path.{_≡_, refl, sym, ap, _∙_, subst}
 use mathlib.Core.Logic.{_≢_, _⊎_, inl, inr}
 use mathlib.Core.Bool.{Bool, true, false, cond}
 use lib.Dec.{eqb}
 use native.Mathlib.Omega.{arith}
-use native.Mathlib.Nat.{le-of-suc-le-suc, not-suc-le-zero, le-refl, le-trans}
+use native.Mathlib.Nat.{le-of-suc-le-suc, not-suc-le-zero, le-trans}
 use Rattle.definition.specs.Base.{put}
 use Rattle.definition.specs.Read.{follow}
-use Rattle.meaning.proofs.Maps.{same?, put-same, put-other, put-at, eqb-same, eqb-diff, eqb-eq}
+use Rattle.meaning.proofs.Maps.{same?, put-other, put-at, eqb-same, eqb-diff}
 
 -- k links from z to y, which is its own target
 pub data Chain (t : ℕ → ℕ) : ℕ → ℕ → ℕ → Type 0 where

@@ -1,20 +1,20 @@
 -- Demand 3 along a path, from the facts. Assumes nothing.
-use Prim.Native.Nat.{ℕ, zero, suc, _+_, _<_}
+use Prim.Native.Nat.{ℕ, zero, suc, _<_}
 use mathlib.Core.Path.{_≡_, refl, sym, ap, _∙_, subst}
 use mathlib.Core.Logic.{_≢_, _⊎_, inl, inr}
 use mathlib.Core.Bool.{Bool, true, false, cond}
-use mathlib.Core.Option.{Option, none, some}
+use mathlib.Core.Option.{Option, some}
 use mathlib.Core.List.{List, [], _∷_, _++_}
 use lib.Dec.{eqb}
 use native.Mathlib.Omega.{arith}
 use native.Mathlib.Nat.{le-of-suc-le-suc, not-suc-le-zero}
 use lib.ListN.{length, getD}
-use Rattle.definition.specs.Base.{put, orElse}
-use Rattle.definition.specs.Form.{Graph, Form, Info, Sort, made, param, nought, def}
+use Rattle.definition.specs.Base.{put}
+use Rattle.definition.specs.Form.{Sort, made, param, nought, def}
 use Rattle.definition.specs.Read.{resolve, type-of}
 use Rattle.definition.specs.Session.{State}
 use Rattle.meaning.specs.Path.{In, Act, makes, gives, uses, acts, Mem, do-act, do-acts, bring, zeroed, zeros-set, enter, At, start, go, Supposed, Faithful}
-use Rattle.meaning.proofs.Maps.{some-inj, put-at, same?, put-same, put-other, eqb-same, eqb-diff, eqb-eq}
+use Rattle.meaning.proofs.Maps.{some-inj, put-at, same?, put-other, eqb-same, eqb-diff}
 use Rattle.meaning.proofs.Facts.{arg-of, cur, Edge, same, kept, Told, Facts}
 
 module _ (W : Type 0) (null : ℕ → W) (t : State) where

@@ -2,9 +2,9 @@
 use Prim.Native.Nat.{ℕ, zero, suc, _+_, _*_, _<_, _≤_}
 use mathlib.Core.Path.{_≡_, refl, sym, ap, _∙_, subst}
 use mathlib.Core.Logic.{_≢_, _⊎_, inl, inr}
-use mathlib.Core.Bool.{Bool, true, false, cond, _||_}
+use mathlib.Core.Bool.{Bool, true, false, _||_}
 use mathlib.Core.Option.{Option, none, some}
-use mathlib.Core.List.{List, [], _∷_, _++_}
+use mathlib.Core.List.{List, [], _∷_}
 use lib.Dec.{eqb}
 use lib.ListN.{length}
 use native.Mathlib.Omega.{arith}
@@ -12,7 +12,7 @@ use native.Mathlib.Nat.{le-trans, not-suc-le-zero}
 use Rattle.definition.specs.Base.{has}
 use Rattle.definition.specs.Form.{Graph, Form, def}
 use Rattle.definition.specs.Session.{bit}
-use Rattle.meaning.specs.Machine.{Conf, conf, visit, turns}
+use Rattle.meaning.specs.Machine.{visit, turns}
 use Rattle.meaning.specs.Path.{In}
 use Rattle.meaning.proofs.Maps.{same?, eqb-same, eqb-diff}
 use Rattle.meaning.proofs.Lists.{Nodup}

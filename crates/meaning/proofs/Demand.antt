@@ -1,28 +1,25 @@
 -- Demand 3, of every session. Assumes nothing.
-use Prim.Native.Nat.{ℕ, zero, suc, _+_, _<_, _≤_}
+use Prim.Native.Nat.{ℕ, zero, suc, _<_}
 use mathlib.Core.Path.{_≡_, refl, sym, ap, _∙_, subst}
 use mathlib.Core.Logic.{_≢_, _⊎_, inl, inr}
-use mathlib.Core.Bool.{Bool, true, false, cond}
+use mathlib.Core.Bool.{true, false}
 use mathlib.Core.Option.{Option, none, some}
 use mathlib.Core.List.{List, [], _∷_, _++_, append-assoc, append-nil}
-use lib.Dec.{eqb}
 use lib.ListN.{length, getD}
 use native.Mathlib.Omega.{arith}
 use native.Mathlib.Nat.{le-of-suc-le-suc, not-suc-le-zero}
-use Rattle.definition.specs.Base.{put, put₂, orElse}
-use Rattle.definition.specs.Form.{Graph, Form, Info, Sort, made, param, nought, def}
-use Rattle.definition.specs.Read.{resolve, type-of}
+use Rattle.definition.specs.Base.{orElse}
+use Rattle.definition.specs.Form.{Graph, Form, Sort, made, param}
 use Rattle.definition.specs.Session.{Call, Done, State, Reply, no, ok, reply, tick, after, step, empty, run, session}
-use Rattle.meaning.specs.Path.{In, Act, makes, gives, uses, act, acts, declares, defines, Supposed, Faithful, Fed, Demand-3}
-use Rattle.meaning.proofs.Maps.{same?, eqb-diff}
-use Rattle.meaning.proofs.Facts.{arg-of, cur, Edge, same, kept, Told, Facts}
+use Rattle.meaning.specs.Path.{In, acts, declares, defines, Supposed, Fed, Demand-3}
+use Rattle.meaning.proofs.Maps.{eqb-diff}
+use Rattle.meaning.proofs.Facts.{arg-of, Edge, same, kept, Facts}
 use Rattle.meaning.proofs.Alias.{tree-start, follow-root}
-use Rattle.meaning.proofs.Lists.{in-left, in-right, PIn, snds}
-use Rattle.meaning.proofs.Inv.{Inv, Grow, grow-refl, pending, Nought}
+use Rattle.meaning.proofs.Lists.{in-right, PIn, snds}
+use Rattle.meaning.proofs.Inv.{grow-refl, pending, Nought}
 use Rattle.meaning.proofs.Keeping.{false-true}
-use Rattle.meaning.proofs.Reading.{Sound}
 use Rattle.meaning.proofs.Sealing.{idle}
-use Rattle.meaning.proofs.Story.{Tells, cur-or, told-all}
+use Rattle.meaning.proofs.Story.{cur-or, told-all}
 use Rattle.meaning.proofs.Graphs.{wider-inv}
 use Rattle.meaning.proofs.Whole.{Whole, silent, Fine, Timely, fine}
 use Rattle.meaning.proofs.Along.{faithful}

@@ -1,17 +1,15 @@
 -- What falls with each turn of the machine; and the heights of its stacks while a block is sealed. Assumes nothing.
-use Prim.Native.Nat.{ℕ, zero, suc, _+_, _*_, _<_, _≤_}
+use Prim.Native.Nat.{ℕ, zero, suc, _+_, _<_, _≤_}
 use mathlib.Core.Path.{_≡_, refl, sym, ap, _∙_, subst}
 use mathlib.Core.Logic.{_≢_, _⊎_, inl, inr}
-use mathlib.Core.Option.{Option, none, some}
-use mathlib.Core.List.{List, [], _∷_, _++_, map, reverse}
-use lib.ListN.{length, take, drop}
+use mathlib.Core.List.{List, [], _∷_, map, reverse}
+use lib.ListN.{length, take}
 use native.Mathlib.Omega.{arith}
-use native.Mathlib.Nat.{le-trans, not-suc-le-zero}
+use native.Mathlib.Nat.{not-suc-le-zero}
 use Rattle.definition.specs.Base.{without}
 use Rattle.definition.specs.Form.{Graph, Form, def}
 use Rattle.definition.specs.Read.{settle, resolve}
 use Rattle.meaning.specs.Machine.{Task, look, finish, Conf, conf, schedule, visit, turn, turns}
-use Rattle.meaning.specs.Path.{In}
 use Rattle.meaning.proofs.Maps.{same?}
 use Rattle.meaning.proofs.Reading.{Sound}
 use Rattle.meaning.proofs.Machine.{Has, Somes, settle-somes}

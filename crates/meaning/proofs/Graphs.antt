@@ -1,19 +1,18 @@
 -- The invariant as the graph changes, and as a variable is written. Assumes nothing.
-use Prim.Native.Nat.{ℕ, zero, suc, _+_, _<_, _≤_}
-use mathlib.Core.Path.{_≡_, refl, sym, ap, _∙_, subst}
+use Prim.Native.Nat.{ℕ, _<_, _≤_}
+use mathlib.Core.Path.{_≡_, sym, ap, _∙_, subst}
 use mathlib.Core.Logic.{_≢_, _⊎_, inl, inr}
-use mathlib.Core.Bool.{Bool, true, false, cond}
-use mathlib.Core.Option.{Option, none, some}
+use mathlib.Core.Bool.{Bool, true, false}
+use mathlib.Core.Option.{Option, some}
 use mathlib.Core.List.{List, [], _∷_, _++_}
 use lib.ListN.{length, getD}
-use native.Mathlib.Omega.{arith}
 use native.Mathlib.Nat.{le-trans}
-use Rattle.definition.specs.Base.{put, put₂, orElse}
-use Rattle.definition.specs.Form.{Graph, Form, Info, Sort, made, param, nought, def}
-use Rattle.definition.specs.Read.{resolve, type-of, write}
+use Rattle.definition.specs.Base.{put, orElse}
+use Rattle.definition.specs.Form.{Graph, Form, def}
+use Rattle.definition.specs.Read.{write}
 use Rattle.meaning.specs.Path.{In}
-use Rattle.meaning.proofs.Maps.{same?, put-same, put-other, put-at}
-use Rattle.meaning.proofs.Facts.{arg-of, Edge, same, kept}
+use Rattle.meaning.proofs.Maps.{same?, put-other}
+use Rattle.meaning.proofs.Facts.{Edge, same, kept}
 use Rattle.meaning.proofs.Lists.{PIn, put₂-other}
 use Rattle.meaning.proofs.Inv.{pending, Nought, Param, Inv}
 use Rattle.meaning.proofs.Keeping.{false-true}

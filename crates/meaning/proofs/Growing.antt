@@ -1,23 +1,23 @@
 -- A new parameter, and a parameter that is kept. Assumes nothing.
-use Prim.Native.Nat.{ℕ, zero, suc, _+_, _<_, _≤_}
+use Prim.Native.Nat.{ℕ, zero, suc, _<_}
 use mathlib.Core.Path.{_≡_, refl, sym, ap, _∙_, subst}
 use mathlib.Core.Logic.{_≢_, _⊎_, inl, inr}
 use mathlib.Core.Bool.{Bool, true, false, cond, _&&_}
 use mathlib.Core.Option.{Option, none, some, Option·none-ne-some}
 use mathlib.Core.List.{List, [], _∷_, _++_, append-assoc}
 use lib.Dec.{eqb}
-use lib.ListN.{length, getD, length-append}
+use lib.ListN.{length, getD}
 use native.Mathlib.Omega.{arith}
-use native.Mathlib.Nat.{le-trans, le-of-suc-le-suc, not-suc-le-zero}
-use Rattle.definition.specs.Base.{put, put₂, without, orElse}
-use Rattle.definition.specs.Form.{Graph, Form, Info, Sort, made, param, nought, def}
-use Rattle.definition.specs.Read.{resolve, follow, type-of, mark-one, make, alias, set-params, is-dest, feed, feed-all}
+use native.Mathlib.Nat.{le-of-suc-le-suc, not-suc-le-zero}
+use Rattle.definition.specs.Base.{put, put₂}
+use Rattle.definition.specs.Form.{Graph, Form, Info, param, def}
+use Rattle.definition.specs.Read.{resolve, type-of, is-dest, feed, feed-all}
 use Rattle.meaning.specs.Path.{In}
 use Rattle.meaning.proofs.Maps.{same?, put-same, put-other, put-at, eqb-same, eqb-diff, eqb-eq, some-inj}
-use Rattle.meaning.proofs.Facts.{arg-of, Edge, same, kept}
-use Rattle.meaning.proofs.Alias.{Tree, tree-suc, follow-suc, follow-root}
-use Rattle.meaning.proofs.Lists.{in-left, in-right, in-cases, Nodup, nodup-snoc, nodup-apart, nodup-right, PIn, snds, snds-append, pin-snds, pin-left, pin-last, pin-cases, arg-more, arg-last, put₂-at, put₂-other, here?}
-use Rattle.meaning.proofs.Inv.{Grow, grow-refl, def-grow, pending, Nought, Param, Inv, edge-grow, nought-grow, nought-same, pending-par, kept-par, in-one}
+use Rattle.meaning.proofs.Facts.{Edge}
+use Rattle.meaning.proofs.Alias.{tree-suc, follow-suc}
+use Rattle.meaning.proofs.Lists.{in-cases, Nodup, nodup-snoc, PIn, snds, snds-append, pin-left, pin-last, pin-cases, put₂-at, put₂-other, here?}
+use Rattle.meaning.proofs.Inv.{Grow, pending, Nought, Param, Inv, edge-grow, nought-grow, pending-par, kept-par, in-one}
 
 module _ (g : Graph) (E : Type 0) where
   -- 4. a new parameter x for v on c

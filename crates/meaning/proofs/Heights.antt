@@ -1,22 +1,21 @@
 -- How high the two stacks of the machine grow: what is scheduled plus what could still be scheduled never grows. Assumes nothing.
-use Prim.Native.Nat.{ℕ, zero, suc, _+_, _*_, _<_, _≤_}
+use Prim.Native.Nat.{ℕ, zero, suc, _+_, _<_, _≤_}
 use mathlib.Core.Path.{_≡_, refl, sym, ap, _∙_, subst}
 use mathlib.Core.Logic.{_≢_, _⊎_, inl, inr}
-use mathlib.Core.Bool.{Bool, true, false, cond}
+use mathlib.Core.Bool.{Bool, true, false}
 use mathlib.Core.Option.{Option, none, some}
 use mathlib.Core.List.{List, [], _∷_, _++_, map, reverse}
-use lib.Dec.{eqb}
-use lib.ListN.{length, take, drop, length-append, length-drop, length-map}
+use lib.ListN.{length, take, length-append, length-drop, length-map}
 use native.Mathlib.Omega.{arith}
-use native.Mathlib.Nat.{le-trans, not-suc-le-zero}
-use Rattle.definition.specs.Base.{put, put₂, orElse, before, every, without}
+use native.Mathlib.Nat.{not-suc-le-zero}
+use Rattle.definition.specs.Base.{put₂, orElse, before, without}
 use Rattle.definition.specs.Form.{Graph, Form, def}
-use Rattle.definition.specs.Read.{Got, mark, mark-one, new-param, wait, walk, settle, resolve}
-use Rattle.meaning.specs.Machine.{Task, look, finish, Conf, conf, schedule, open-param, find, visit, settle-top, turn, turns}
+use Rattle.definition.specs.Read.{mark, new-param, wait, walk, settle, resolve}
+use Rattle.meaning.specs.Machine.{Task, look, finish, Conf, conf, schedule, open-param, find, visit, turn, turns}
 use Rattle.meaning.specs.Path.{In}
 use Rattle.meaning.proofs.Maps.{same?}
-use Rattle.meaning.proofs.Lists.{put₂-at, put₂-other, here?}
-use Rattle.meaning.proofs.Reading.{Sound, Walked, walked}
+use Rattle.meaning.proofs.Lists.{put₂-at}
+use Rattle.meaning.proofs.Reading.{Sound, walked}
 use Rattle.meaning.proofs.Machine.{Has, or-has, Somes, mark-somes, settle-somes, param-somes}
 
 -- what the blocks without a definition weigh

@@ -1,23 +1,22 @@
 -- The invariant of reading, and that each change of the form keeps it. The graph is fixed.
 -- Assumes nothing.
-use Prim.Native.Nat.{ℕ, zero, suc, _+_, _<_, _≤_}
+use Prim.Native.Nat.{ℕ, _<_, _≤_}
 use mathlib.Core.Path.{_≡_, refl, sym, ap, _∙_, subst}
 use mathlib.Core.Logic.{_≢_, _⊎_, inl, inr}
-use mathlib.Core.Bool.{Bool, true, false, cond}
-use mathlib.Core.Option.{Option, none, some}
-use mathlib.Core.List.{List, [], _∷_, _++_, append-assoc}
-use lib.Dec.{eqb}
+use mathlib.Core.Bool.{true, false, cond}
+use mathlib.Core.Option.{Option, some}
+use mathlib.Core.List.{List, [], _∷_, _++_}
 use lib.ListN.{length, getD}
 use native.Mathlib.Omega.{arith}
-use native.Mathlib.Nat.{le-refl, le-trans}
-use Rattle.definition.specs.Base.{put, put₂, without, orElse}
-use Rattle.definition.specs.Form.{Graph, Form, Info, Sort, made, param, nought, def}
+use native.Mathlib.Nat.{le-trans}
+use Rattle.definition.specs.Base.{put, put₂, without}
+use Rattle.definition.specs.Form.{Graph, Form, Info, Sort, param, nought, def}
 use Rattle.definition.specs.Read.{resolve, follow, type-of, mark-one, make, alias}
 use Rattle.meaning.specs.Path.{In}
-use Rattle.meaning.proofs.Maps.{same?, put-same, put-other, put-at, eqb-same, eqb-diff, eqb-eq, some-inj}
+use Rattle.meaning.proofs.Maps.{same?, put-same, put-other, put-at, some-inj}
 use Rattle.meaning.proofs.Facts.{arg-of, Edge, same, kept}
-use Rattle.meaning.proofs.Alias.{Tree, tree-suc, tree-alias, root-is, follow-suc, follow-root, follow-keep, follow-move, follow-same}
-use Rattle.meaning.proofs.Lists.{in-left, in-right, in-cases, Nodup, nodup-snoc, nodup-apart, nodup-right, without-in, without-mid, nodup-without, PIn, snds, snds-append, pin-snds, pin-left, pin-last, pin-cases, arg-more, arg-last, put₂-at, put₂-other, here?, or-mono}
+use Rattle.meaning.proofs.Alias.{Tree, tree-suc, tree-alias, follow-suc, follow-root, follow-keep, follow-move, follow-same}
+use Rattle.meaning.proofs.Lists.{in-left, in-right, Nodup, nodup-apart, without-in, without-mid, nodup-without, PIn, snds, pin-snds, put₂-at, put₂-other, here?, or-mono}
 
 pub nought-param : {k : Sort} → k ≡ nought → k ≡ param → ⊥
 nought-param p q = let z : _≡_ {A = ℕ} 0 1 = cc in omega arith

@@ -1,23 +1,23 @@
 -- The stack machine does what the recursive reading does, on every form. Assumes nothing.
-use Prim.Native.Nat.{ℕ, zero, suc, _+_, _<_, _≤_}
+use Prim.Native.Nat.{ℕ, zero, suc, _<_, _≤_}
 use mathlib.Core.Path.{_≡_, refl, sym, ap, _∙_, subst}
 use mathlib.Core.Logic.{_≢_, _⊎_, inl, inr}
 use mathlib.Core.Bool.{Bool, true, false, cond}
 use mathlib.Core.Option.{Option, none, some}
-use mathlib.Core.List.{List, [], _∷_, _++_, append-assoc, append-nil, map, reverse, reverseAux, reverseAux-eq, reverse-reverse}
+use mathlib.Core.List.{List, [], _∷_, _++_, map, reverse, reverseAux, reverseAux-eq, reverse-reverse}
 use lib.Dec.{eqb}
 use lib.ListN.{length, take, drop, length-reverse}
 use lib.Seq.{take-at, drop-at}
 use native.Mathlib.Omega.{arith}
 use native.Mathlib.Nat.{le-trans, not-suc-le-zero}
-use Rattle.definition.specs.Base.{put, put₂, orElse, before, every, without}
+use Rattle.definition.specs.Base.{put₂, orElse, before, every, without}
 use Rattle.definition.specs.Form.{Graph, Form, def, with-args}
 use Rattle.definition.specs.Read.{Got, mark, mark-one, new-param, wait, walk, settle, settle-left, alias, feed-all, resolve, read-all, fill, begin, read-past, read-on, read}
-use Rattle.meaning.specs.Machine.{Task, look, finish, Conf, conf, schedule, open-param, find, visit, settle-top, turn, turns}
+use Rattle.meaning.specs.Machine.{Task, look, finish, Conf, conf, schedule, open-param, find, visit, settle-top, turn}
 use Rattle.meaning.specs.Path.{In}
 use Rattle.meaning.proofs.Maps.{same?}
 use Rattle.meaning.proofs.Lists.{put₂-at, put₂-other, here?}
-use Rattle.meaning.proofs.Reading.{Sound, is-none, lacks, Walked, walked}
+use Rattle.meaning.proofs.Reading.{Sound, is-none, lacks, walked}
 
 -- some number of turns leads from one configuration to another
 pub data Goes (g : Graph) (v : ℕ) : Conf → Conf → Type 0 where

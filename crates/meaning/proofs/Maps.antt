@@ -1,13 +1,11 @@
 -- Tests and maps. Assumes nothing.
-use Prim.Native.Nat.{ℕ, zero, suc, _+_, _<_}
+use Prim.Native.Nat.{ℕ}
 use mathlib.Core.Path.{_≡_, refl, sym, ap, _∙_, subst}
 use mathlib.Core.Logic.{_≢_, _⊎_, inl, inr}
-use mathlib.Core.Bool.{Bool, true, false, cond}
-use mathlib.Core.Option.{Option, none, some}
-use mathlib.Core.List.{List, [], _∷_, _++_}
+use mathlib.Core.Bool.{Bool, true, false}
+use mathlib.Core.Option.{Option, some}
 use lib.Dec.{eqb, T, eqb→eq, eqb-refl}
-use Rattle.definition.specs.Base.{put, put₂}
-use Rattle.meaning.specs.Path.{In}
+use Rattle.definition.specs.Base.{put}
 
 pub T-true : (b : Bool) → T b → b ≡ true
 T-true true h = refl

@@ -11,7 +11,7 @@ use native.Mathlib.Omega.{arith}
 use native.Mathlib.Nat.{le-trans, not-suc-le-zero}
 use Rattle.definition.specs.Base.{put, put₂, orElse, before, every, without}
 use Rattle.definition.specs.Form.{Graph, Form, def, with-args}
-use Rattle.definition.specs.Read.{Got, type-of, mark, mark-one, new-param, wait, walk, settle, settle-left, alias, feed-all, resolve}
+use Rattle.definition.specs.Read.{Got, mark, new-param, wait, walk, settle, settle-left, alias, feed-all, resolve}
 use Rattle.meaning.specs.Machine.{Task, look, finish, Conf, conf, schedule, open-param, find, visit, settle-top, turn, turns}
 use Rattle.meaning.specs.Path.{In}
 use Rattle.meaning.proofs.Maps.{same?, put-same, put-other, put-at, eqb-diff}
@@ -20,9 +20,9 @@ use Rattle.meaning.proofs.Inv.{Grow, pending, Param, Inv, pending-par}
 use Rattle.meaning.proofs.Growing.{grown, grown-inv, grown-grow}
 use Rattle.meaning.proofs.Keeping.{false-true}
 use Rattle.meaning.proofs.Settle.{Settled, settled}
-use Rattle.meaning.proofs.Reading.{Sound, Busy, busy-grow, lacks, Trail, trail-before, Walked, walked, Marked, marked, some-none, or-none}
-use Rattle.meaning.proofs.Machine.{Has, or-has, Somes, mark-somes, settle-somes, param-somes, fewer, less, Goes, there, on}
-use Rattle.meaning.proofs.Room.{waiting, waiting-put, mark-next, mark-waits, settle-room}
+use Rattle.meaning.proofs.Reading.{Sound, Busy, busy-grow, lacks, Trail, trail-before, walked, Marked, marked, some-none, or-none}
+use Rattle.meaning.proofs.Machine.{Has, Somes, mark-somes, settle-somes, param-somes, fewer, less, Goes, there, on}
+use Rattle.meaning.proofs.Room.{waiting, waiting-put, mark-next, settle-room}
 use Rattle.meaning.proofs.Sealing.{lacks-le}
 use Rattle.meaning.proofs.Ranges.{Bounds, Ranged, def-below, mark-is, mark-ranged, more-ranged, settle-ranged}
 

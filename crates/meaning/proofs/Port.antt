@@ -1,32 +1,31 @@
 -- What the code of the machine needs at each turn: the turns lead where the run ends, each turn lowers a number, and there is room before
 -- each cell is written. Assumes nothing.
-use Prim.Native.Nat.{ℕ, zero, suc, _+_, _*_, _<_, _≤_}
+use Prim.Native.Nat.{ℕ, zero, suc, _<_, _≤_}
 use mathlib.Core.Path.{_≡_, refl, sym, ap, _∙_, subst}
 use mathlib.Core.Logic.{_≢_, _⊎_, inl, inr}
-use mathlib.Core.Bool.{Bool, true, false, cond}
-use mathlib.Core.Option.{Option, none, some}
-use mathlib.Core.List.{List, [], _∷_, _++_}
+use mathlib.Core.Bool.{true}
+use mathlib.Core.Option.{none}
+use mathlib.Core.List.{List, [], _∷_}
 use lib.ListN.{length, getD}
 use native.Mathlib.Omega.{arith}
-use native.Mathlib.Nat.{le-trans, not-suc-le-zero}
-use Rattle.definition.specs.Base.{put, orElse}
+use native.Mathlib.Nat.{le-trans}
+use Rattle.definition.specs.Base.{put}
 use Rattle.definition.specs.Form.{Graph, Form, def}
-use Rattle.definition.specs.Session.{Call, State, session}
+use Rattle.definition.specs.Session.{State}
 use Rattle.meaning.specs.Machine.{Task, look, finish, Conf, conf, turn, turns}
 use Rattle.meaning.specs.Path.{In}
 use Rattle.meaning.proofs.Maps.{same?, put-same, put-other, put-at}
 use Rattle.meaning.proofs.Lists.{PIn}
-use Rattle.meaning.proofs.Inv.{Inv, pending, pending-par}
+use Rattle.meaning.proofs.Inv.{pending, pending-par}
 use Rattle.meaning.proofs.Reading.{Sound, or-none}
 use Rattle.meaning.proofs.Sealing.{idle}
 use Rattle.meaning.proofs.Machine.{Goes, there, on}
 use Rattle.meaning.proofs.Heights.{Within, Low, run-within}
 use Rattle.meaning.proofs.Fall.{left, turn-falls}
-use Rattle.meaning.proofs.Ranges.{Bounds, Ranged}
-use Rattle.meaning.proofs.Mid.{Load, load-next, Mid, at-work, finishes, Sane}
-use Rattle.meaning.proofs.Rest.{Rest, at-head}
-use Rattle.meaning.proofs.Sure.{Safe, Sure, Always, sure, full}
-use Rattle.meaning.proofs.Rooms.{Rooms, Moment, Resting, Runs, value-room, param-room, waits-room, feed-room}
+use Rattle.meaning.proofs.Ranges.{Bounds}
+use Rattle.meaning.proofs.Mid.{load-next, at-work, finishes, Sane}
+use Rattle.meaning.proofs.Sure.{Always, full}
+use Rattle.meaning.proofs.Rooms.{Moment, Resting, value-room, param-room, waits-room, feed-room}
 
 -- a session is at rest between calls
 pub resting : (t : State) (h : Always t) → Resting (t .graph) (h .whole .sound) (h .safe .bounds) idle 0 (t .form)

@@ -1,21 +1,20 @@
 -- What every number stored is below, of every form, and that each change of a form keeps it. Assumes nothing.
-use Prim.Native.Nat.{ℕ, zero, suc, _+_, _<_, _≤_}
+use Prim.Native.Nat.{ℕ, zero, suc, _<_, _≤_}
 use mathlib.Core.Path.{_≡_, refl, sym, ap, _∙_, subst}
 use mathlib.Core.Logic.{_≢_, _⊎_, inl, inr}
 use mathlib.Core.Bool.{Bool, true, false, cond, _&&_}
 use mathlib.Core.Option.{Option, none, some, Option·none-ne-some}
 use mathlib.Core.List.{List, [], _∷_, _++_, map}
 use lib.Dec.{eqb}
-use lib.ListN.{length, getD}
+use lib.ListN.{length}
 use native.Mathlib.Omega.{arith}
-use native.Mathlib.Nat.{le-trans}
 use Rattle.definition.specs.Base.{put, put₂, without, orElse, every, has}
-use Rattle.definition.specs.Form.{Graph, Form, Info, Sort, made, param, nought, def, with-args, with-entry, with-placed}
-use Rattle.definition.specs.Read.{Got, resolve, follow, type-of, mark-one, mark, make, alias, place-block, log-zero, is-dest, feed, feed-all, settle-left, settle}
+use Rattle.definition.specs.Form.{Graph, Form, Info, param, nought, def, with-args, with-entry}
+use Rattle.definition.specs.Read.{Got, resolve, follow, type-of, mark-one, mark, alias, is-dest, feed, feed-all, settle-left, settle}
 use Rattle.meaning.specs.Causes.{Caused}
 use Rattle.meaning.specs.Path.{In}
 use Rattle.meaning.proofs.Maps.{same?, put-same, put-other, put-at, some-inj}
-use Rattle.meaning.proofs.Lists.{Nodup, nodup-snoc, in-left, in-right, in-cases, without-in, put₂-at, put₂-other, here?}
+use Rattle.meaning.proofs.Lists.{Nodup, nodup-snoc, in-cases, without-in, put₂-at, put₂-other, here?}
 use Rattle.meaning.proofs.Inv.{Grow, Param, in-one, nought-param}
 use Rattle.meaning.proofs.Keeping.{false-true}
 use Rattle.meaning.proofs.Settle.{map-in}

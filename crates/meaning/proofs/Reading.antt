@@ -2,23 +2,21 @@
 use Prim.Native.Nat.{ℕ, zero, suc, _+_, _<_, _≤_}
 use mathlib.Core.Path.{_≡_, refl, sym, ap, _∙_, subst, fun-ext}
 use mathlib.Core.Logic.{_≢_, _⊎_, inl, inr}
-use mathlib.Core.Bool.{Bool, true, false, cond, _&&_}
+use mathlib.Core.Bool.{Bool, true, false, cond}
 use mathlib.Core.Option.{Option, none, some, Option·none-ne-some}
-use mathlib.Core.List.{List, [], _∷_, _++_, append-assoc, map}
+use mathlib.Core.List.{List, [], _∷_, _++_}
 use lib.Dec.{eqb}
-use lib.ListN.{length, getD}
+use lib.ListN.{length}
 use native.Mathlib.Omega.{arith}
 use native.Mathlib.Nat.{le-trans, not-suc-le-zero}
-use Rattle.definition.specs.Base.{put, put₂, without, orElse, every, has, before}
-use Rattle.definition.specs.Form.{Graph, Form, Info, Sort, made, param, nought, def}
-use Rattle.definition.specs.Read.{Got, resolve, follow, type-of, mark-one, mark, settle, only, single, Walk, stop, on-to, past, walk, read-all, fill, new-param, wait, begin, read-past, read-on, read}
+use Rattle.definition.specs.Base.{put, put₂, orElse, has, before}
+use Rattle.definition.specs.Form.{Graph, Form, def}
+use Rattle.definition.specs.Read.{Got, resolve, mark-one, mark, settle, only, single, Walk, stop, on-to, past, walk, read-all, fill, new-param, begin, read-past, read-on, read}
 use Rattle.meaning.specs.Path.{In}
-use Rattle.meaning.proofs.Maps.{same?, put-same, put-other, put-at, eqb-same, eqb-diff, eqb-eq, some-inj}
-use Rattle.meaning.proofs.Facts.{Edge, same, kept}
-use Rattle.meaning.proofs.Lists.{Nodup, PIn, put₂-at, put₂-other, here?}
+use Rattle.meaning.proofs.Maps.{same?, put-same, put-other, put-at, eqb-same, eqb-diff, some-inj}
+use Rattle.meaning.proofs.Lists.{Nodup, put₂-at, put₂-other, here?}
 use Rattle.meaning.proofs.Inv.{Grow, grow-refl, grow-trans, def-grow, pending, Inv, mark-inv, mark-grow}
 use Rattle.meaning.proofs.Growing.{Results, results-length, grown, grown-grow, grown-inv}
-use Rattle.meaning.proofs.Keeping.{false-true}
 use Rattle.meaning.proofs.Settle.{Settled, settled}
 
 pub some-none : {o : Option ℕ} {a : ℕ} → o ≡ some a → o ≡ none → ⊥

@@ -1,29 +1,27 @@
 -- Between runs of the machine: the invariant without edges, ranges and room hold before and after each use and each seal. Assumes nothing.
-use Prim.Native.Nat.{ℕ, zero, suc, _+_, _*_, _<_, _≤_}
+use Prim.Native.Nat.{ℕ, zero, suc, _+_, _<_, _≤_}
 use mathlib.Core.Path.{_≡_, refl, sym, ap, _∙_, subst, fun-ext}
 use mathlib.Core.Logic.{_≢_, _⊎_, inl, inr}
-use mathlib.Core.Bool.{Bool, true, false, cond}
-use mathlib.Core.Option.{Option, none, some}
-use mathlib.Core.List.{List, [], _∷_, _++_, map}
+use mathlib.Core.Bool.{Bool, true, false}
+use mathlib.Core.Option.{some}
+use mathlib.Core.List.{List, [], _∷_, _++_}
 use lib.ListN.{length}
 use native.Mathlib.Omega.{arith}
-use native.Mathlib.Nat.{le-trans, not-suc-le-zero}
-use Rattle.definition.specs.Base.{put, put₂, upFrom}
-use Rattle.definition.specs.Form.{Graph, Form, def}
-use Rattle.definition.specs.Read.{Got, set-pending, fill, read, depth, settle-pending}
+use native.Mathlib.Nat.{le-trans}
+use Rattle.definition.specs.Base.{put, upFrom}
+use Rattle.definition.specs.Form.{Graph, Form}
+use Rattle.definition.specs.Read.{set-pending, fill, read, depth, settle-pending}
 use Rattle.definition.specs.Session.{mark-sealed, seal-form, seal-each}
-use Rattle.meaning.specs.Machine.{Task, look, finish, Conf, conf, schedule, turn, turns}
+use Rattle.meaning.specs.Machine.{look, finish, Conf, conf, schedule}
 use Rattle.meaning.specs.Path.{In}
 use Rattle.meaning.proofs.Maps.{same?, put-same, put-other, put-at}
-use Rattle.meaning.proofs.Lists.{PIn, snds}
-use Rattle.meaning.proofs.Inv.{Grow, pending, Inv}
-use Rattle.meaning.proofs.Keeping.{false-true}
-use Rattle.meaning.proofs.Reading.{Sound, Busy, Read, reads}
-use Rattle.meaning.proofs.Sealing.{idle, shallow, Sealed, sealed-one, marked-inv, sound-sealed, is-sealed}
-use Rattle.meaning.proofs.Machine.{Goes, does, fills}
-use Rattle.meaning.proofs.Room.{waiting, waiting-put}
+use Rattle.meaning.proofs.Inv.{Inv}
+use Rattle.meaning.proofs.Reading.{Sound, reads}
+use Rattle.meaning.proofs.Sealing.{idle, shallow, sealed-one, marked-inv}
+use Rattle.meaning.proofs.Machine.{does, fills}
+use Rattle.meaning.proofs.Room.{waiting-put}
 use Rattle.meaning.proofs.Ranges.{Bounds, Ranged}
-use Rattle.meaning.proofs.Mid.{Load, lack-all, all-fewer, Mid, Now, looks-on, goes-now, at-work}
+use Rattle.meaning.proofs.Mid.{Load, all-fewer, Now, looks-on, goes-now}
 
 module _ (N M A Z : ℕ) (eN : 64 ≤ N) (eM : 64 ≤ M) where
   -- op is at work, and k of it are to be settled

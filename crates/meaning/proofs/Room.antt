@@ -1,6 +1,6 @@
 -- Room for values: a reading adds at most two values for each block that it newly gives a definition. Holds on every form. Assumes nothing.
 use Prim.Native.Nat.{ℕ, zero, suc, _+_, _*_, _<_, _≤_}
-use mathlib.Core.Path.{_≡_, refl, sym, ap, _∙_, subst}
+use mathlib.Core.Path.{_≡_, refl, ap}
 use mathlib.Core.Logic.{_≢_, _⊎_, inl, inr}
 use mathlib.Core.Bool.{Bool, true, false, cond}
 use mathlib.Core.Option.{Option, none, some}
@@ -11,11 +11,11 @@ use native.Mathlib.Omega.{arith}
 use native.Mathlib.Nat.{le-trans, not-suc-le-zero}
 use Rattle.definition.specs.Base.{put, put₂, orElse, before, every, without}
 use Rattle.definition.specs.Form.{Graph, Form, def, with-args}
-use Rattle.definition.specs.Read.{Got, mark, mark-one, new-param, wait, walk, settle, settle-left, alias, feed-all, resolve, read-all, fill, begin, read-past, read-on, read}
+use Rattle.definition.specs.Read.{Got, mark, new-param, wait, walk, settle, settle-left, alias, feed-all, resolve, read-all, fill, begin, read-past, read-on, read}
 use Rattle.meaning.specs.Path.{In}
-use Rattle.meaning.proofs.Maps.{same?, put-same, put-other, put-at}
+use Rattle.meaning.proofs.Maps.{same?, put-other, put-at}
 use Rattle.meaning.proofs.Lists.{put₂-at}
-use Rattle.meaning.proofs.Reading.{Sound, lacks, Walked, walked}
+use Rattle.meaning.proofs.Reading.{Sound, lacks, walked}
 use Rattle.meaning.proofs.Machine.{Has, or-has, Somes, mark-somes, settle-somes, param-somes, fewer, less}
 
 -- all pending variables

@@ -1,22 +1,22 @@
 -- The rooms of the tables, after every list of calls and at every moment of a use and of a seal. Assumes nothing.
-use Prim.Native.Nat.{ℕ, zero, suc, _+_, _*_, _<_, _≤_}
+use Prim.Native.Nat.{ℕ, suc, _+_, _<_, _≤_}
 use mathlib.Core.Path.{_≡_, refl, sym, ap, _∙_, subst}
-use mathlib.Core.Logic.{_≢_, _⊎_, inl, inr}
-use mathlib.Core.Bool.{Bool, true, false, cond}
+use mathlib.Core.Logic.{inl, inr}
+use mathlib.Core.Bool.{Bool, true, false}
 use mathlib.Core.Option.{Option, none, some}
 use mathlib.Core.List.{List, [], _∷_, _++_, append-nil}
-use lib.Dec.{eqb, ltb}
+use lib.Dec.{ltb}
 use lib.ListN.{length, getD, length-append}
 use native.Mathlib.Omega.{arith}
-use native.Mathlib.Nat.{le-trans, not-suc-le-zero}
-use Rattle.definition.specs.Base.{put, put₂, has, orElse}
+use native.Mathlib.Nat.{le-trans}
+use Rattle.definition.specs.Base.{put, has, orElse}
 use Rattle.definition.specs.Form.{Graph, Form, def}
 use Rattle.definition.specs.Read.{write}
-use Rattle.definition.specs.Session.{Call, State, session, mark-sealed}
-use Rattle.meaning.specs.Machine.{Task, look, finish, Conf, conf, schedule, visit, turn, turns}
+use Rattle.definition.specs.Session.{Call, State, session}
+use Rattle.meaning.specs.Machine.{Conf, conf, schedule, visit, turns}
 use Rattle.meaning.specs.Path.{In}
-use Rattle.meaning.proofs.Maps.{same?, put-same, put-other, put-at, some-inj}
-use Rattle.meaning.proofs.Lists.{Nodup, PIn, snds, in-left, in-right}
+use Rattle.meaning.proofs.Maps.{put-same, put-other}
+use Rattle.meaning.proofs.Lists.{snds}
 use Rattle.meaning.proofs.Inv.{Inv, pending}
 use Rattle.meaning.proofs.Keeping.{false-true}
 use Rattle.meaning.proofs.Reading.{Sound, some-none}
@@ -24,12 +24,11 @@ use Rattle.meaning.proofs.Sealing.{idle}
 use Rattle.meaning.proofs.Machine.{Has}
 use Rattle.meaning.proofs.Whole.{has-in, in-has}
 use Rattle.meaning.proofs.Heights.{Within, run-within}
-use Rattle.meaning.proofs.Count.{heights}
-use Rattle.meaning.proofs.Fall.{seal-heights, use-within, seal-within, left, turn-falls, turns-end}
+use Rattle.meaning.proofs.Fall.{use-within, seal-within}
 use Rattle.meaning.proofs.Ranges.{Bounds, Ranged}
-use Rattle.meaning.proofs.Mid.{pigeon, Load, lack-all, all-less, load-next, Mid, Now, at-work, turns-now, visit-now, finishes}
-use Rattle.meaning.proofs.Rest.{Rest, Running, use-start, seal-start, at-head}
-use Rattle.meaning.proofs.Sure.{Safe, Sure, sure, write-somes, full, Always}
+use Rattle.meaning.proofs.Mid.{pigeon, Load, all-less, load-next, at-work, turns-now, visit-now, finishes}
+use Rattle.meaning.proofs.Rest.{Rest, Running, seal-start, at-head}
+use Rattle.meaning.proofs.Sure.{sure, write-somes, full, Always}
 
 -- of one form
 module _ (g : Graph) (G : Sound g) (B : Bounds g) (s : Form) (kp : ℕ → List ℕ) (op : ℕ → List (ℕ × ℕ)) (h : Inv g ⊥ s kp op) (R : Ranged g s) where

@@ -2,25 +2,22 @@
 use Prim.Native.Nat.{ℕ, zero, suc, _+_, _<_, _≤_}
 use mathlib.Core.Path.{_≡_, refl, sym, ap, _∙_, subst, fun-ext}
 use mathlib.Core.Logic.{_≢_, _⊎_, inl, inr}
-use mathlib.Core.Bool.{Bool, true, false, cond, _&&_}
+use mathlib.Core.Bool.{true, false}
 use mathlib.Core.Option.{Option, none, some}
 use mathlib.Core.List.{List, [], _∷_, _++_}
-use lib.Dec.{eqb}
 use lib.ListN.{length, getD}
 use native.Mathlib.Omega.{arith}
-use native.Mathlib.Nat.{le-trans}
-use Rattle.definition.specs.Base.{put, put₂}
-use Rattle.definition.specs.Form.{Graph, Form, Info, Sort, made, param, nought, def}
-use Rattle.definition.specs.Read.{Got, resolve, type-of, set-pending, fill, read, depth, settle-pending}
+use Rattle.definition.specs.Base.{put}
+use Rattle.definition.specs.Form.{Graph, Form, def}
+use Rattle.definition.specs.Read.{set-pending, fill, read, depth, settle-pending}
 use Rattle.definition.specs.Session.{mark-sealed, seal-form}
 use Rattle.meaning.specs.Path.{In}
 use Rattle.meaning.proofs.Maps.{same?, put-same, put-other, put-at}
 use Rattle.meaning.proofs.Facts.{Edge, same, kept}
 use Rattle.meaning.proofs.Lists.{PIn, snds}
-use Rattle.meaning.proofs.Inv.{Grow, grow-refl, grow-trans, pending, Nought, Param, Inv, edge-grow, nought-same, kept-par}
+use Rattle.meaning.proofs.Inv.{Grow, grow-refl, grow-trans, pending, Nought, Inv, edge-grow, kept-par}
 use Rattle.meaning.proofs.Keeping.{false-true}
-use Rattle.meaning.proofs.Settle.{Settled}
-use Rattle.meaning.proofs.Reading.{lacks, Sound, Busy, filled, reads}
+use Rattle.meaning.proofs.Reading.{lacks, Sound, filled, reads}
 
 abbrev pub idle : ℕ → List (ℕ × ℕ)
 idle b = []

@@ -1,24 +1,22 @@
 -- Settling a parameter keeps the invariant. Assumes nothing.
-use Prim.Native.Nat.{ℕ, zero, suc, _+_, _<_, _≤_}
+use Prim.Native.Nat.{ℕ, suc, _<_}
 use mathlib.Core.Path.{_≡_, refl, sym, ap, _∙_, subst}
 use mathlib.Core.Logic.{_≢_, _⊎_, inl, inr}
 use mathlib.Core.Bool.{Bool, true, false, cond, _&&_}
-use mathlib.Core.Option.{Option, none, some, Option·none-ne-some}
-use mathlib.Core.List.{List, [], _∷_, _++_, append-assoc, map}
+use mathlib.Core.List.{List, [], _∷_, _++_, map}
 use lib.Dec.{eqb}
-use lib.ListN.{length, getD}
+use lib.ListN.{length}
 use native.Mathlib.Omega.{arith}
-use native.Mathlib.Nat.{le-trans}
-use Rattle.definition.specs.Base.{put, put₂, without, orElse, every, has}
-use Rattle.definition.specs.Form.{Graph, Form, Info, Sort, made, param, nought, def, with-args}
-use Rattle.definition.specs.Read.{Got, resolve, follow, type-of, mark-one, make, alias, place-block, log-zero, feed-all, settle-left, settle}
+use Rattle.definition.specs.Base.{put, without, every}
+use Rattle.definition.specs.Form.{Graph, Form, Info, param, nought, with-args}
+use Rattle.definition.specs.Read.{Got, resolve, make, alias, place-block, log-zero, feed-all, settle-left, settle}
 use Rattle.meaning.specs.Path.{In}
-use Rattle.meaning.proofs.Maps.{same?, put-same, put-other, put-at, eqb-same, eqb-diff, eqb-eq, some-inj}
-use Rattle.meaning.proofs.Facts.{arg-of, Edge, same, kept}
-use Rattle.meaning.proofs.Alias.{Tree, root-is, follow-root}
+use Rattle.meaning.proofs.Maps.{same?, put-same, eqb-diff, eqb-eq}
+use Rattle.meaning.proofs.Facts.{Edge, same}
+use Rattle.meaning.proofs.Alias.{root-is, follow-root}
 use Rattle.meaning.proofs.Lists.{Nodup, PIn, without-in}
-use Rattle.meaning.proofs.Inv.{Grow, grow-refl, grow-trans, def-grow, pending, Nought, Param, Inv, edge-grow, nought-same, pending-par, kept-par, nought-param, make-inv, make-grow, make-res, make-info, alias-inv, alias-grow, alias-keep, alias-move}
-use Rattle.meaning.proofs.Growing.{Results, results-length}
+use Rattle.meaning.proofs.Inv.{Grow, grow-trans, def-grow, pending, Nought, Param, Inv, edge-grow, nought-same, pending-par, kept-par, nought-param, make-inv, make-grow, alias-inv, alias-grow, alias-keep, alias-move}
+use Rattle.meaning.proofs.Growing.{Results}
 use Rattle.meaning.proofs.Keeping.{result-of, keep-inv, keep-grow, false-true}
 
 cons-nil : (y : ℕ) (ys : List ℕ) → _≡_ {A = List ℕ} [] (y ∷ ys) → ⊥

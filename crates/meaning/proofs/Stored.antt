@@ -1,30 +1,30 @@
 -- Every number stored in a table is in range, after every list of calls and at every moment of a run; and how far a walk goes. Assumes nothing.
-use Prim.Native.Nat.{ℕ, zero, suc, _+_, _*_, _<_, _≤_}
+use Prim.Native.Nat.{ℕ, zero, suc, _<_, _≤_}
 use mathlib.Core.Path.{_≡_, refl, sym, ap, _∙_, subst}
-use mathlib.Core.Logic.{_≢_, _⊎_, inl, inr}
-use mathlib.Core.Bool.{Bool, true, false, cond, _||_}
+use mathlib.Core.Logic.{inl, inr}
+use mathlib.Core.Bool.{Bool, true, false, _||_}
 use mathlib.Core.Option.{Option, none, some}
-use mathlib.Core.List.{List, [], _∷_, _++_}
+use mathlib.Core.List.{List, [], _∷_}
 use lib.Dec.{eqb, ltb}
 use lib.ListN.{length, getD}
 use native.Mathlib.Omega.{arith}
 use native.Mathlib.Nat.{le-trans, not-suc-le-zero, le-of-suc-le-suc}
 use Rattle.definition.specs.Base.{has}
 use Rattle.definition.specs.Form.{Graph, Form, def}
-use Rattle.definition.specs.Read.{Walk, stop, on-to, past, walk, single}
-use Rattle.definition.specs.Session.{Call, State, session}
-use Rattle.meaning.specs.Machine.{Task, Conf, conf}
+use Rattle.definition.specs.Read.{Walk, on-to, past, walk, single}
+use Rattle.definition.specs.Session.{Call, session}
+use Rattle.meaning.specs.Machine.{Conf}
 use Rattle.meaning.specs.Path.{In}
-use Rattle.meaning.proofs.Maps.{same?, eqb-diff, true-T}
+use Rattle.meaning.proofs.Maps.{true-T}
 use Rattle.meaning.proofs.Lists.{Nodup, PIn}
-use Rattle.meaning.proofs.Inv.{Inv, pending, pending-par}
+use Rattle.meaning.proofs.Inv.{Inv, pending}
 use Rattle.meaning.proofs.Keeping.{false-true}
-use Rattle.meaning.proofs.Reading.{Sound, Trail, Walked, walked}
+use Rattle.meaning.proofs.Reading.{Sound, Trail, walked}
 use Rattle.meaning.proofs.Sealing.{idle}
-use Rattle.meaning.proofs.Whole.{has-in, in-has, ltb-no}
+use Rattle.meaning.proofs.Whole.{has-in, ltb-no}
 use Rattle.meaning.proofs.Ranges.{Bounds, Ranged}
 use Rattle.meaning.proofs.Mid.{pigeon, at-work}
-use Rattle.meaning.proofs.Sure.{Always, sure, full}
+use Rattle.meaning.proofs.Sure.{sure, full}
 use Rattle.meaning.proofs.Rooms.{Moment}
 
 pub record Stored (g : Graph) (s : Form) : Type 0 where

@@ -1,5 +1,5 @@
 -- What holds after every list of calls, with no supposition. Assumes nothing.
-use Prim.Native.Nat.{ℕ, zero, suc, _+_, _*_, _<_, _≤_}
+use Prim.Native.Nat.{ℕ, zero, suc, _*_, _<_, _≤_}
 use mathlib.Core.Path.{_≡_, refl, sym, ap, _∙_, subst}
 use mathlib.Core.Logic.{_≢_, _⊎_, inl, inr}
 use mathlib.Core.Bool.{Bool, true, false, cond, not, _&&_, _||_}
@@ -10,15 +10,15 @@ use lib.ListN.{length, getD, length-append, List·getD-append}
 use native.Mathlib.Omega.{arith}
 use native.Mathlib.Nat.{le-trans, not-suc-le-zero}
 use Rattle.definition.specs.Base.{put, put₂, orElse, has, upFrom}
-use Rattle.definition.specs.Form.{Graph, Form, Info, Sort, made, param, nought, def, with-makes}
-use Rattle.definition.specs.Read.{type-of, write, make, place-block, read, depth}
+use Rattle.definition.specs.Form.{Graph, Form, Info, Sort, made, param, nought, with-makes}
+use Rattle.definition.specs.Read.{type-of, write, make, place-block}
 use Rattle.definition.specs.Session.{Call, Done, State, Reply, no, ok, refuse_when_else_, declared-anywhere, no-block, no-var, no-value, no-branch, declare-block, declare-var, make-value, define, use-var, new-branch, new-dest, add-pred, drop-pred, seal, seal-form, mark-sealed, seal-each, seal-all, define-answer, answered, reply, tick, after, step, run, empty, session}
 use Rattle.meaning.specs.Path.{In}
-use Rattle.meaning.proofs.Maps.{same?, put-same, put-other, put-at, eqb-eq}
+use Rattle.meaning.proofs.Maps.{same?, put-other, put-at, eqb-eq}
 use Rattle.meaning.proofs.Lists.{in-cases, put₂-at, put₂-other, here?}
-use Rattle.meaning.proofs.Inv.{Inv, in-one}
+use Rattle.meaning.proofs.Inv.{in-one}
 use Rattle.meaning.proofs.Keeping.{false-true}
-use Rattle.meaning.proofs.Reading.{Sound, some-none}
+use Rattle.meaning.proofs.Reading.{some-none}
 use Rattle.meaning.proofs.Sealing.{idle}
 use Rattle.meaning.proofs.Machine.{Has, Somes}
 use Rattle.meaning.proofs.Room.{waiting}
@@ -26,8 +26,8 @@ use Rattle.meaning.proofs.Whole.{Whole, Fine, fine, ltb-no, leb-no, or-
 use Rattle.meaning.proofs.Demand.{Good, empty-good, after-good}
 use Rattle.meaning.proofs.Causing.{new-caused}
 use Rattle.meaning.proofs.Ranges.{Bounds, Ranged, placed-once, placed-in}
-use Rattle.meaning.proofs.Mid.{Load, lack-all, all-fewer, all-le, load-same, load-next}
-use Rattle.meaning.proofs.Rest.{Rest, read-rest, seal-rest, bounds-sealed, All-rest, each-rest, up-below}
+use Rattle.meaning.proofs.Mid.{Load, all-fewer, all-le, load-same}
+use Rattle.meaning.proofs.Rest.{Rest, read-rest, seal-rest, bounds-sealed, each-rest, up-below}
 
 -- the graph grows
 pub wider-ranged : (g g′ : Graph) (s : Form) → Ranged g s → g .blocks ≤ g′ .blocks → length (g .types) ≤ length (g′ .types) → g .call ≤ g′ .call → ((b : ℕ) → g′ .sealed b ≡ g .sealed b) → Ranged g′ s

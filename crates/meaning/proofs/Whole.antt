@@ -1,28 +1,28 @@
 -- The invariant of a session, and that each call keeps it. Assumes nothing.
 use Prim.Native.Nat.{ℕ, zero, suc, _+_, _<_, _≤_}
-use mathlib.Core.Path.{_≡_, refl, sym, ap, _∙_, subst, fun-ext}
+use mathlib.Core.Path.{_≡_, refl, sym, ap, _∙_, subst}
 use mathlib.Core.Logic.{_≢_, _⊎_, inl, inr}
 use mathlib.Core.Bool.{Bool, true, false, cond, not, _&&_, _||_}
 use mathlib.Core.Option.{Option, none, some}
-use mathlib.Core.List.{List, [], _∷_, _++_, append-assoc, append-nil, map}
-use lib.Dec.{eqb, ltb, leb, T, nltb→le, nleb→lt, leb→le}
+use mathlib.Core.List.{List, [], _∷_, _++_, append-nil, map}
+use lib.Dec.{eqb, ltb, leb, T, nltb→le, nleb→lt}
 use lib.ListN.{length, getD, length-append, List·getD-append}
 use native.Mathlib.Omega.{arith}
-use native.Mathlib.Nat.{le-trans, not-suc-le-zero, le-of-suc-le-suc}
+use native.Mathlib.Nat.{le-trans}
 use Rattle.definition.specs.Base.{put, put₂, orElse, has, any, upFrom}
-use Rattle.definition.specs.Form.{Graph, Form, Info, Sort, made, param, nought, def, with-makes}
-use Rattle.definition.specs.Read.{resolve, type-of, write, make, place-block, read, depth}
-use Rattle.definition.specs.Session.{Call, Done, State, Reply, no, ok, refuse_when_else_, declared-anywhere, no-block, no-var, no-value, no-branch, declare-block, declare-var, make-value, define, use-var, new-branch, new-dest, add-pred, drop-pred, swap-out, but-last, last, seal, seal-form, mark-sealed, seal-each, seal-all, define-answer, answered, reply, tick, bit}
+use Rattle.definition.specs.Form.{Graph, Form, Info, made, param, def, with-makes}
+use Rattle.definition.specs.Read.{type-of, write, make, place-block, read, depth}
+use Rattle.definition.specs.Session.{Call, Done, Reply, no, ok, refuse_when_else_, declared-anywhere, no-block, no-var, no-value, no-branch, declare-block, declare-var, make-value, define, use-var, new-branch, new-dest, add-pred, drop-pred, swap-out, but-last, last, seal, seal-form, mark-sealed, seal-each, seal-all, define-answer, answered, reply}
 use Rattle.meaning.specs.Path.{In, Act, makes, gives, uses, act, acts, if-so, declares, defines}
-use Rattle.meaning.proofs.Maps.{same?, put-same, put-other, put-at, eqb-same, eqb-diff, eqb-eq}
+use Rattle.meaning.proofs.Maps.{same?, put-same, put-other, put-at, eqb-same, eqb-diff}
 use Rattle.meaning.proofs.Facts.{cur}
-use Rattle.meaning.proofs.Lists.{Nodup, nodup-snoc, in-left, in-right, in-cases, put₂-at, put₂-other, here?}
+use Rattle.meaning.proofs.Lists.{Nodup, nodup-snoc, in-left, in-right, in-cases, put₂-at, put₂-other}
 use Rattle.meaning.proofs.Inv.{Grow, grow-refl, grow-trans, Inv, make-inv, make-grow}
 use Rattle.meaning.proofs.Keeping.{false-true}
 use Rattle.meaning.proofs.Settle.{relog-inv, relog-grow, map-in}
-use Rattle.meaning.proofs.Reading.{Sound, Busy, Read, reads}
-use Rattle.meaning.proofs.Sealing.{idle, shallow, Sealed, sealed-one}
-use Rattle.meaning.proofs.Story.{Tells, Keeps, keeps, Under, tells-mono, tells-makes, tells-gives, tells-uses, cur-or, cur-append, acts-append}
+use Rattle.meaning.proofs.Reading.{Sound, Read, reads}
+use Rattle.meaning.proofs.Sealing.{idle, shallow, sealed-one}
+use Rattle.meaning.proofs.Story.{Tells, Keeps, keeps, tells-mono, tells-makes, tells-gives, tells-uses, cur-or, cur-append, acts-append}
 use Rattle.meaning.proofs.Graphs.{wider-inv, aimed-inv, joined-inv, write-inv}
 
 pub record Whole (E : Type 0) (g : Graph) (s : Form) (ds : List Done) : Type 0 where
