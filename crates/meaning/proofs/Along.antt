@@ -6,15 +6,16 @@ use mathlib.Core.Bool.{Bool, true, false, cond}
 use mathlib.Core.Option.{Option, some}
 use mathlib.Core.List.{List, [], _∷_, _++_}
 use lib.Dec.{eqb}
+use lib.ListN.{length, getD}
 use native.Mathlib.Omega.{arith}
 use native.Mathlib.Nat.{le-of-suc-le-suc, not-suc-le-zero}
-use lib.ListN.{length, getD}
 use Rattle.definition.specs.Base.{put}
 use Rattle.definition.specs.Form.{Sort, made, param, nought, def}
 use Rattle.definition.specs.Read.{resolve, type-of}
 use Rattle.definition.specs.Session.{State}
-use Rattle.meaning.specs.Path.{In, Act, makes, gives, uses, acts, Mem, do-act, do-acts, bring, zeroed, zeros-set, enter, At, start, go, Supposed, Faithful}
-use Rattle.meaning.proofs.Maps.{some-inj, put-at, same?, put-other, eqb-same, eqb-diff}
+use Rattle.meaning.specs.Path.{In, Act, makes, gives, uses, acts, Mem, do-act, do-acts, bring, zeroed, zeros-set, enter, At, start, go, Supposed}
+use Rattle.meaning.specs.Path.{Faithful}
+use Rattle.meaning.proofs.Maps.{some-inj, put-at, same?, put-other, eqb-same, eqb-diff, some-none}
 use Rattle.meaning.proofs.Facts.{arg-of, cur, Edge, same, kept, Told, Facts}
 
 module _ (W : Type 0) (null : ℕ → W) (t : State) where
@@ -127,8 +128,8 @@ module _ (W : Type 0) (null : ℕ → W) (t : State) where
 
   -- entering a block
   bring-arg : (xs us : List ℕ) (old : ℕ → W) (y a : ℕ) → arg-of xs us y ≡ some a → bring W null t xs us old y ≡ old (resolve (t .form) a)
-  bring-arg [] us old y a e = absurd (mathlib.Core.Option.Option·none-ne-some a e)
-  bring-arg (x ∷ xs) [] old y a e = absurd (mathlib.Core.Option.Option·none-ne-some a e)
+  bring-arg [] us old y a e = absurd (some-none e refl)
+  bring-arg (x ∷ xs) [] old y a e = absurd (some-none e refl)
   bring-arg (x ∷ xs) (u ∷ us) old y a e = by (eqb y x) (bring-arg xs us old y a) e
     where
       by : (c : Bool) → (arg-of xs us y ≡ some a → bring W null t xs us old y ≡ old (resolve (t .form) a)) → cond c (some u) (arg-of xs us y) ≡ some a

@@ -14,13 +14,12 @@ use Rattle.definition.specs.Session.{Call, session}
 use Rattle.meaning.specs.Causes.{Caused, is-sort, Causes-param, Causes-zero, values-of, Once}
 use Rattle.meaning.specs.Machine.{Conf}
 use Rattle.meaning.specs.Path.{In}
-use Rattle.meaning.proofs.Maps.{eqb-eq, some-inj}
+use Rattle.meaning.proofs.Maps.{eqb-eq, some-inj, false-true, and-both}
 use Rattle.meaning.proofs.Lists.{Nodup}
-use Rattle.meaning.proofs.Keeping.{false-true}
 use Rattle.meaning.proofs.Reading.{Sound}
 use Rattle.meaning.proofs.Ranges.{Bounds}
 use Rattle.meaning.proofs.Mid.{pigeon}
-use Rattle.meaning.proofs.Sure.{and-both, sure}
+use Rattle.meaning.proofs.Sure.{sure}
 use Rattle.meaning.proofs.Rooms.{Moment}
 
 is-sort-eq : (j k : Sort) → is-sort j k ≡ true → j ≡ k

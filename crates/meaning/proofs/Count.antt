@@ -15,9 +15,8 @@ use Rattle.definition.specs.Session.{bit}
 use Rattle.meaning.specs.Machine.{visit, turns}
 use Rattle.meaning.specs.Path.{In}
 use Rattle.meaning.proofs.Maps.{same?, eqb-same, eqb-diff}
-use Rattle.meaning.proofs.Lists.{Nodup}
+use Rattle.meaning.proofs.Lists.{Nodup, has-in, in-has}
 use Rattle.meaning.proofs.Reading.{Sound}
-use Rattle.meaning.proofs.Whole.{has-in, in-has}
 use Rattle.meaning.proofs.Heights.{weight, weigh, Within, visit-within, run-within}
 
 abbrev pub sum : (ℕ → ℕ) → ℕ → ℕ

@@ -12,12 +12,11 @@ use Rattle.definition.specs.Base.{orElse}
 use Rattle.definition.specs.Form.{Graph, Form, Sort, made, param}
 use Rattle.definition.specs.Session.{Call, Done, State, Reply, no, ok, reply, tick, after, step, empty, run, session}
 use Rattle.meaning.specs.Path.{In, acts, declares, defines, Supposed, Fed, Demand-3}
-use Rattle.meaning.proofs.Maps.{eqb-diff}
+use Rattle.meaning.proofs.Maps.{eqb-diff, false-true, some-none}
 use Rattle.meaning.proofs.Facts.{arg-of, Edge, same, kept, Facts}
 use Rattle.meaning.proofs.Alias.{tree-start, follow-root}
 use Rattle.meaning.proofs.Lists.{in-right, PIn, snds}
 use Rattle.meaning.proofs.Inv.{grow-refl, pending, Nought}
-use Rattle.meaning.proofs.Keeping.{false-true}
 use Rattle.meaning.proofs.Sealing.{idle}
 use Rattle.meaning.proofs.Story.{cur-or, told-all}
 use Rattle.meaning.proofs.Graphs.{wider-inv}
@@ -89,9 +88,9 @@ pub empty-good : (E : Type 0) → Good E empty
 empty-good E = record {
   kp = λ b. [];
   inv = record {
-    known = λ w b e q. absurd (Option-none e q);
-    edge = λ _ w b e q. absurd (Option-none e q);
-    first = λ _ w b e q _. absurd (Option-none e q);
+    known = λ w b e q. absurd (some-none q refl);
+    edge = λ _ w b e q. absurd (some-none q refl);
+    first = λ _ w b e q _. absurd (some-none q refl);
     pend = λ w b x i. absurd i;
     split = λ b. refl;
     pars = λ b x i. absurd i;
@@ -109,9 +108,6 @@ empty-good E = record {
   tells = λ b. tt;
 }
   where
-    Option-none : (e : ℕ) → _≡_ {A = Option ℕ} none (some e) → ⊥
-    Option-none e q = mathlib.Core.Option.Option·none-ne-some e q
-
     no-lt : (i : ℕ) → i < 0 → ⊥
     no-lt i l = omega arith
 

@@ -11,11 +11,10 @@ use Rattle.definition.specs.Base.{put, orElse}
 use Rattle.definition.specs.Form.{Graph, Form, def}
 use Rattle.definition.specs.Read.{write}
 use Rattle.meaning.specs.Path.{In}
-use Rattle.meaning.proofs.Maps.{same?, put-other}
+use Rattle.meaning.proofs.Maps.{same?, put-other, put₂-other, false-true}
 use Rattle.meaning.proofs.Facts.{Edge, same, kept}
-use Rattle.meaning.proofs.Lists.{PIn, put₂-other}
+use Rattle.meaning.proofs.Lists.{PIn}
 use Rattle.meaning.proofs.Inv.{pending, Nought, Param, Inv}
-use Rattle.meaning.proofs.Keeping.{false-true}
 
 param-graph : (g g′ : Graph) (s : Form) (b x : ℕ) → Param g s b x → Param g′ s b x
 param-graph g g′ s b x r = record { home = r .home; sort = r .sort; root = r .root; below = r .below }

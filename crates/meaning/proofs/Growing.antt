@@ -13,10 +13,10 @@ use Rattle.definition.specs.Base.{put, put₂}
 use Rattle.definition.specs.Form.{Graph, Form, Info, param, def}
 use Rattle.definition.specs.Read.{resolve, type-of, is-dest, feed, feed-all}
 use Rattle.meaning.specs.Path.{In}
-use Rattle.meaning.proofs.Maps.{same?, put-same, put-other, put-at, eqb-same, eqb-diff, eqb-eq, some-inj}
+use Rattle.meaning.proofs.Maps.{same?, put-same, put-other, put-at, eqb-same, eqb-diff, eqb-eq, some-inj, put₂-at, put₂-other, here?}
 use Rattle.meaning.proofs.Facts.{Edge}
 use Rattle.meaning.proofs.Alias.{tree-suc, follow-suc}
-use Rattle.meaning.proofs.Lists.{in-cases, Nodup, nodup-snoc, PIn, snds, snds-append, pin-left, pin-last, pin-cases, put₂-at, put₂-other, here?}
+use Rattle.meaning.proofs.Lists.{in-cases, Nodup, nodup-snoc, PIn, snds, snds-append, pin-left, pin-last, pin-cases}
 use Rattle.meaning.proofs.Inv.{Grow, pending, Nought, Param, Inv, edge-grow, nought-grow, pending-par, kept-par, in-one}
 
 module _ (g : Graph) (E : Type 0) where

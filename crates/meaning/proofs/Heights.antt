@@ -13,8 +13,7 @@ use Rattle.definition.specs.Form.{Graph, Form, def}
 use Rattle.definition.specs.Read.{mark, new-param, wait, walk, settle, resolve}
 use Rattle.meaning.specs.Machine.{Task, look, finish, Conf, conf, schedule, open-param, find, visit, turn, turns}
 use Rattle.meaning.specs.Path.{In}
-use Rattle.meaning.proofs.Maps.{same?}
-use Rattle.meaning.proofs.Lists.{put₂-at}
+use Rattle.meaning.proofs.Maps.{same?, put₂-at}
 use Rattle.meaning.proofs.Reading.{Sound, walked}
 use Rattle.meaning.proofs.Machine.{Has, or-has, Somes, mark-somes, settle-somes, param-somes}
 

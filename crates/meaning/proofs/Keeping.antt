@@ -2,7 +2,7 @@
 use Prim.Native.Nat.{ℕ, _+_, _<_}
 use mathlib.Core.Path.{_≡_, refl, sym, ap, _∙_, subst}
 use mathlib.Core.Logic.{_≢_, _⊎_, inl, inr}
-use mathlib.Core.Bool.{Bool, true, false}
+use mathlib.Core.Bool.{true, false}
 use mathlib.Core.Option.{some}
 use mathlib.Core.List.{List, [], _∷_, _++_, append-assoc}
 use lib.ListN.{length, getD, length-append}
@@ -11,19 +11,12 @@ use Rattle.definition.specs.Base.{put}
 use Rattle.definition.specs.Form.{Graph, Form, def, with-args}
 use Rattle.definition.specs.Read.{resolve, type-of, is-dest, feed-all}
 use Rattle.meaning.specs.Path.{In}
-use Rattle.meaning.proofs.Maps.{same?, put-same, put-other, put-at, some-inj}
+use Rattle.meaning.proofs.Maps.{same?, put-same, put-other, put-at, some-inj, false-true, bool?}
 use Rattle.meaning.proofs.Facts.{Edge, kept}
 use Rattle.meaning.proofs.Alias.{follow-root}
 use Rattle.meaning.proofs.Lists.{in-left, in-right, Nodup, nodup-apart, PIn, snds, arg-more, arg-last}
 use Rattle.meaning.proofs.Inv.{Grow, pending, Nought, Inv, edge-grow, nought-same, pending-par, kept-par}
 use Rattle.meaning.proofs.Growing.{dest-yes, dest-is, Results, Got-one, all-not, all-else, all-here, one-more}
-
-bool? : (b : Bool) → (b ≡ true) ⊎ (b ≡ false)
-bool? true = inl refl
-bool? false = inr refl
-
-pub false-true : {b : Bool} → b ≡ false → b ≡ true → ⊥
-false-true p q = let z : _≡_ {A = ℕ} 0 1 = cc in omega arith
 
 module _ (g : Graph) where
   dest-no : (ds : List ℕ) (i b c : ℕ) → getD ds i 0 ≡ c → c ≢ b → is-dest ds i b ≡ false

@@ -2,6 +2,7 @@ pub mod Maps
 pub mod Alias
 pub mod Facts
 pub mod Lists
+pub mod Sums
 pub mod Inv
 pub mod Growing
 pub mod Keeping

@@ -2,15 +2,15 @@
 use Prim.Native.Nat.{ℕ}
 use mathlib.Core.Path.{_≡_, refl, sym, ap, _∙_, subst}
 use mathlib.Core.Logic.{_≢_, _⊎_, inl, inr}
-use mathlib.Core.Bool.{Bool, true, false, cond}
+use mathlib.Core.Bool.{Bool, true, false, cond, _||_}
 use mathlib.Core.Option.{Option, none, some}
 use mathlib.Core.List.{List, [], _∷_, _++_}
 use lib.Dec.{eqb}
 use lib.ListN.{length}
 use native.Mathlib.Omega.{arith}
-use Rattle.definition.specs.Base.{put, put₂, without, orElse}
+use Rattle.definition.specs.Base.{without, orElse, has}
 use Rattle.meaning.specs.Path.{In}
-use Rattle.meaning.proofs.Maps.{same?, put-other, put-at, eqb-same, eqb-diff}
+use Rattle.meaning.proofs.Maps.{same?, eqb-same, eqb-diff, false-true, some-none}
 use Rattle.meaning.proofs.Facts.{arg-of}
 
 pub in-left : {A : Type 0} (x : A) (l r : List A) → In x l → In x (l ++ r)
@@ -30,6 +30,30 @@ in-cases x (y ∷ l) r (inr h) = more (in-cases x l r h)
     more : In x l ⊎ In x r → In x (y ∷ l) ⊎ In x r
     more (inl i) = inl (inr i)
     more (inr i) = inr i
+
+pub has-in : (p : ℕ) (l : List ℕ) → In p l → has p l ≡ true
+has-in p [] i = absurd i
+has-in p (q ∷ l) (inl e) = rw (ap (λ (k : ℕ). eqb k q) e ∙ eqb-same q) refl
+has-in p (q ∷ l) (inr i) = by (eqb p q) (has-in p l i)
+  where
+    by : (b : Bool) → has p l ≡ true → b || has p l ≡ true
+    by true e = refl
+    by false e = e
+
+pub in-has : (p : ℕ) (l : List ℕ) → has p l ≡ true → In p l
+in-has p [] e = absurd (false-true refl e)
+in-has p (q ∷ l) e = by (same? p q) (in-has p l)
+  where
+    by : (p ≡ q) ⊎ (p ≢ q) → (has p l ≡ true → In p l) → In p (q ∷ l)
+    by (inl k) below = inl k
+    by (inr n) below = inr (below (rw (eqb-diff p q n) at e))
+
+pub not-has : (x : ℕ) (l : List ℕ) → (In x l → ⊥) → has x l ≡ false
+not-has x l n = by (has x l) refl
+  where
+    by : (b : Bool) → has x l ≡ b → b ≡ false
+    by true e = absurd (n (in-has x l e))
+    by false e = refl
 
 abbrev pub Nodup : List ℕ → Type 0
 Nodup [] = Unit {0}
@@ -133,8 +157,8 @@ pin-cases w x v y (q ∷ l) (inr h) = more (pin-cases w x v y l h)
 
 -- arguments
 pub arg-more : (K L U Z : List ℕ) (e a : ℕ) → arg-of K U e ≡ some a → arg-of (K ++ L) (U ++ Z) e ≡ some a
-arg-more [] L U Z e a h = absurd (mathlib.Core.Option.Option·none-ne-some a h)
-arg-more (k ∷ K) L [] Z e a h = absurd (mathlib.Core.Option.Option·none-ne-some a h)
+arg-more [] L U Z e a h = absurd (some-none h refl)
+arg-more (k ∷ K) L [] Z e a h = absurd (some-none h refl)
 arg-more (k ∷ K) L (u ∷ U) Z e a h = by (eqb e k) (arg-more K L U Z e a) h
   where
     by : (b : Bool) → (arg-of K U e ≡ some a → arg-of (K ++ L) (U ++ Z) e ≡ some a) → cond b (some u) (arg-of K U e) ≡ some a → cond b (some u) (arg-of (K ++ L) (U ++ Z) e) ≡ some a
@@ -146,27 +170,6 @@ arg-last [] [] e a n h = rw (eqb-same e)
 arg-last [] (u ∷ U) e a n h = absurd (omega arith)
 arg-last (k ∷ K) [] e a n h = absurd (omega arith)
 arg-last (k ∷ K) (u ∷ U) e a n h = rw (eqb-diff e k (λ q. n (inl q))) (arg-last K U e a (λ i. n (inr i)) (omega arith))
-
--- maps of two keys
-module _ {A : Type 0} where
-  pub put₂-at : (k l : ℕ) (a : A) (f : ℕ → ℕ → A) (i j : ℕ) → i ≡ k → j ≡ l → put₂ k l a f i j ≡ a
-  put₂-at k l a f i j p q = ap (λ (h : ℕ → A). h j) (put-at k (put l a (f k)) f i p) ∙ put-at l a (f k) j q
-
-  pub put₂-other : (k l : ℕ) (a : A) (f : ℕ → ℕ → A) (i j : ℕ) → (i ≡ k → j ≡ l → ⊥) → put₂ k l a f i j ≡ f i j
-  put₂-other k l a f i j n = by (same? i k)
-    where
-      by : (i ≡ k) ⊎ (i ≢ k) → put₂ k l a f i j ≡ f i j
-      by (inl p) = ap (λ (h : ℕ → A). h j) (put-at k (put l a (f k)) f i p) ∙ put-other l a (f k) j (n p) ∙ ap (λ (h : ℕ). f h j) (sym p)
-      by (inr p) = ap (λ (h : ℕ → A). h j) (put-other k (put l a (f k)) f i p)
-
--- is it this pair of keys?
-pub here? : (i k j l : ℕ) → ((i ≡ k) × (j ≡ l)) ⊎ (i ≡ k → j ≡ l → ⊥)
-here? i k j l = by (same? i k) (same? j l)
-  where
-    by : (i ≡ k) ⊎ (i ≢ k) → (j ≡ l) ⊎ (j ≢ l) → ((i ≡ k) × (j ≡ l)) ⊎ (i ≡ k → j ≡ l → ⊥)
-    by (inl p) (inl q) = inl (p, q)
-    by (inl p) (inr q) = inr (λ _ h. q h)
-    by (inr p) q = inr (λ h _. p h)
 
 pub or-mono : (a a′ b b′ : Option ℕ) (o : ℕ) → a′ ≡ a → ((e : ℕ) → b ≡ some e → b′ ≡ some e) → orElse a b ≡ some o → orElse a′ b′ ≡ some o
 or-mono (some x) a′ b b′ o p h q = ap (λ (c : Option ℕ). orElse c b′) p ∙ q

@@ -12,11 +12,11 @@ use native.Mathlib.Omega.{arith}
 use native.Mathlib.Nat.{le-trans, not-suc-le-zero}
 use Rattle.definition.specs.Base.{put₂, orElse, before, every, without}
 use Rattle.definition.specs.Form.{Graph, Form, def, with-args}
-use Rattle.definition.specs.Read.{Got, mark, mark-one, new-param, wait, walk, settle, settle-left, alias, feed-all, resolve, read-all, fill, begin, read-past, read-on, read}
+use Rattle.definition.specs.Read.{Got, mark, mark-one, new-param, wait, walk, settle, settle-left, alias, feed-all, resolve, read-all, fill, begin, read-past}
+use Rattle.definition.specs.Read.{read-on, read}
 use Rattle.meaning.specs.Machine.{Task, look, finish, Conf, conf, schedule, open-param, find, visit, settle-top, turn}
 use Rattle.meaning.specs.Path.{In}
-use Rattle.meaning.proofs.Maps.{same?}
-use Rattle.meaning.proofs.Lists.{put₂-at, put₂-other, here?}
+use Rattle.meaning.proofs.Maps.{same?, put₂-at, put₂-other, here?}
 use Rattle.meaning.proofs.Reading.{Sound, is-none, lacks, walked}
 
 -- some number of turns leads from one configuration to another

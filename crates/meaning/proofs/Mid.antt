@@ -14,13 +14,13 @@ use Rattle.definition.specs.Form.{Graph, Form, def, with-args}
 use Rattle.definition.specs.Read.{Got, mark, new-param, wait, walk, settle, settle-left, alias, feed-all, resolve}
 use Rattle.meaning.specs.Machine.{Task, look, finish, Conf, conf, schedule, open-param, find, visit, settle-top, turn, turns}
 use Rattle.meaning.specs.Path.{In}
-use Rattle.meaning.proofs.Maps.{same?, put-same, put-other, put-at, eqb-diff}
-use Rattle.meaning.proofs.Lists.{Nodup, PIn, nodup-without, without-in, without-none, put₂-at, put₂-other, here?}
+use Rattle.meaning.proofs.Maps.{same?, put-same, put-other, put-at, eqb-diff, put₂-at, put₂-other, here?, false-true, some-none, or-none, eqb-same}
+use Rattle.meaning.proofs.Maps.{some-inj}
+use Rattle.meaning.proofs.Lists.{Nodup, PIn, nodup-without, without-in, without-none}
 use Rattle.meaning.proofs.Inv.{Grow, pending, Param, Inv, pending-par}
 use Rattle.meaning.proofs.Growing.{grown, grown-inv, grown-grow}
-use Rattle.meaning.proofs.Keeping.{false-true}
 use Rattle.meaning.proofs.Settle.{Settled, settled}
-use Rattle.meaning.proofs.Reading.{Sound, Busy, busy-grow, lacks, Trail, trail-before, walked, Marked, marked, some-none, or-none}
+use Rattle.meaning.proofs.Reading.{Sound, Busy, busy-grow, lacks, Trail, trail-before, walked, Marked, marked}
 use Rattle.meaning.proofs.Machine.{Has, Somes, mark-somes, settle-somes, param-somes, fewer, less, Goes, there, on}
 use Rattle.meaning.proofs.Room.{waiting, waiting-put, mark-next, settle-room}
 use Rattle.meaning.proofs.Sealing.{lacks-le}
@@ -32,7 +32,7 @@ len-without y [] d = omega arith
 len-without y (z ∷ l) d = by (same? z y) (len-without y l (d .1))
   where
     by : (z ≡ y) ⊎ (z ≢ y) → length l ≤ suc (length (without y l)) → suc (length l) ≤ suc (length (without y (z ∷ l)))
-    by (inl e) below = rw (ap (λ (k : ℕ). eqb k y) e ∙ Rattle.meaning.proofs.Maps.eqb-same y, without-none y l (λ i. d .0 (subst (λ (k : ℕ). In k l) (sym e) i))) (omega arith)
+    by (inl e) below = rw (ap (λ (k : ℕ). eqb k y) e ∙ eqb-same y, without-none y l (λ i. d .0 (subst (λ (k : ℕ). In k l) (sym e) i))) (omega arith)
     by (inr n) below = rw (eqb-diff z y n) (omega (arith, below))
 
 pub pigeon : (f : ℕ → Option ℕ) (n : ℕ) (l : List ℕ) → Nodup l → ((x : ℕ) → In x l → (w : ℕ) × (w < n) × (f w ≡ some x)) → length l ≤ n
@@ -48,7 +48,7 @@ pigeon f (suc n) l d h = by (f n) refl (λ m. pigeon f n m)
     by (some y) e below = let k = below (without y l) (nodup-without y l d) (λ x i. let j = without-in y l x i in on x (j .1) (h x (j .0))) in omega (arith, k, len-without y l d)
       where
         on : (x : ℕ) → x ≢ y → (w : ℕ) × (w < suc n) × (f w ≡ some x) → (w : ℕ) × (w < n) × (f w ≡ some x)
-        on x d′ k = let ne : k .0 ≢ n = λ q. d′ (Rattle.meaning.proofs.Maps.some-inj (sym (k .2) ∙ ap f q ∙ e)) in (k .0, omega (arith, k .1, ne), k .2)
+        on x d′ k = let ne : k .0 ≢ n = λ q. d′ (some-inj (sym (k .2) ∙ ap f q ∙ e)) in (k .0, omega (arith, k .1, ne), k .2)
 
 -- blocks and variables without a definition
 abbrev pub lack-all : ℕ → Form → ℕ → ℕ
@@ -252,7 +252,7 @@ module _ (g : Graph) (G : Sound g) (B : Bounds g) (v : ℕ) (lv : v < length (g 
           set-out = marked g G v lv ⊥ s s₁ (h .kp) op′ x c (grown-inv g ⊥ s (h .kp) op op′ (h .inv) v c ws blank lv lc elsewhere there′) (λ w d. refl) (λ d q u i. by d q u i (here? v v d c)) at-c (before c over) p (trail-before g G v lv s p c over tr)
             where
               by : (d : ℕ) → def s v d ≡ none → (u : ℕ) → put₂ v c (some x) (s .entry) v d ≡ some u → ((v ≡ v) × (d ≡ c)) ⊎ (v ≡ v → d ≡ c → ⊥) → u ≡ x
-              by d q u i (inl j) = Rattle.meaning.proofs.Maps.some-inj (sym i ∙ put₂-at v c (some x) (s .entry) v d refl (j .1))
+              by d q u i (inl j) = some-inj (sym i ∙ put₂-at v c (some x) (s .entry) v d refl (j .1))
               by d q u i (inr j) = absurd (some-none (sym (put₂-other v c (some x) (s .entry) v d j) ∙ i) (or-none (s .own v d) (s .entry v d) q .1))
 
           set-ranged : Ranged g s₂

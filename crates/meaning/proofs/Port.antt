@@ -14,10 +14,10 @@ use Rattle.definition.specs.Form.{Graph, Form, def}
 use Rattle.definition.specs.Session.{State}
 use Rattle.meaning.specs.Machine.{Task, look, finish, Conf, conf, turn, turns}
 use Rattle.meaning.specs.Path.{In}
-use Rattle.meaning.proofs.Maps.{same?, put-same, put-other, put-at}
+use Rattle.meaning.proofs.Maps.{same?, put-same, put-other, put-at, or-none}
 use Rattle.meaning.proofs.Lists.{PIn}
 use Rattle.meaning.proofs.Inv.{pending, pending-par}
-use Rattle.meaning.proofs.Reading.{Sound, or-none}
+use Rattle.meaning.proofs.Reading.{Sound}
 use Rattle.meaning.proofs.Sealing.{idle}
 use Rattle.meaning.proofs.Machine.{Goes, there, on}
 use Rattle.meaning.proofs.Heights.{Within, Low, run-within}

@@ -13,12 +13,10 @@ use Rattle.definition.specs.Form.{Graph, Form, Info, param, nought, def, with-a
 use Rattle.definition.specs.Read.{Got, resolve, follow, type-of, mark-one, mark, alias, is-dest, feed, feed-all, settle-left, settle}
 use Rattle.meaning.specs.Causes.{Caused}
 use Rattle.meaning.specs.Path.{In}
-use Rattle.meaning.proofs.Maps.{same?, put-same, put-other, put-at, some-inj}
-use Rattle.meaning.proofs.Lists.{Nodup, nodup-snoc, in-cases, without-in, put₂-at, put₂-other, here?}
+use Rattle.meaning.proofs.Maps.{same?, put-same, put-other, put-at, some-inj, put₂-at, put₂-other, here?, false-true}
+use Rattle.meaning.proofs.Lists.{Nodup, nodup-snoc, in-cases, without-in, has-in}
 use Rattle.meaning.proofs.Inv.{Grow, Param, in-one, nought-param}
-use Rattle.meaning.proofs.Keeping.{false-true}
 use Rattle.meaning.proofs.Settle.{map-in}
-use Rattle.meaning.proofs.Whole.{has-in}
 use Rattle.meaning.proofs.Causing.{new-caused, alias-keeps, alias-caused}
 
 -- the graph

@@ -3,7 +3,7 @@ use Prim.Native.Nat.{ℕ, zero, suc, _+_, _<_, _≤_}
 use mathlib.Core.Path.{_≡_, refl, sym, ap, _∙_, subst, fun-ext}
 use mathlib.Core.Logic.{_≢_, _⊎_, inl, inr}
 use mathlib.Core.Bool.{Bool, true, false, cond}
-use mathlib.Core.Option.{Option, none, some, Option·none-ne-some}
+use mathlib.Core.Option.{Option, none, some}
 use mathlib.Core.List.{List, [], _∷_, _++_}
 use lib.Dec.{eqb}
 use lib.ListN.{length}
@@ -11,20 +11,14 @@ use native.Mathlib.Omega.{arith}
 use native.Mathlib.Nat.{le-trans, not-suc-le-zero}
 use Rattle.definition.specs.Base.{put, put₂, orElse, has, before}
 use Rattle.definition.specs.Form.{Graph, Form, def}
-use Rattle.definition.specs.Read.{Got, resolve, mark-one, mark, settle, only, single, Walk, stop, on-to, past, walk, read-all, fill, new-param, begin, read-past, read-on, read}
+use Rattle.definition.specs.Read.{Got, resolve, mark-one, mark, settle, only, single, Walk, stop, on-to, past, walk, read-all, fill, new-param, begin}
+use Rattle.definition.specs.Read.{read-past, read-on, read}
 use Rattle.meaning.specs.Path.{In}
-use Rattle.meaning.proofs.Maps.{same?, put-same, put-other, put-at, eqb-same, eqb-diff, some-inj}
-use Rattle.meaning.proofs.Lists.{Nodup, put₂-at, put₂-other, here?}
+use Rattle.meaning.proofs.Maps.{same?, put-same, put-other, put-at, eqb-same, eqb-diff, some-inj, put₂-at, put₂-other, here?, some-none, or-none}
+use Rattle.meaning.proofs.Lists.{Nodup}
 use Rattle.meaning.proofs.Inv.{Grow, grow-refl, grow-trans, def-grow, pending, Inv, mark-inv, mark-grow}
 use Rattle.meaning.proofs.Growing.{Results, results-length, grown, grown-grow, grown-inv}
 use Rattle.meaning.proofs.Settle.{Settled, settled}
-
-pub some-none : {o : Option ℕ} {a : ℕ} → o ≡ some a → o ≡ none → ⊥
-some-none {o} {a} p q = Option·none-ne-some a (sym q ∙ p)
-
-pub or-none : (a b : Option ℕ) → orElse a b ≡ none → (a ≡ none) × (b ≡ none)
-or-none (some x) b e = absurd (some-none refl e)
-or-none none b e = (refl, e)
 
 -- how many blocks below n have no definition of v
 abbrev pub is-none : Option ℕ → ℕ
@@ -71,7 +65,7 @@ module _ (g : Graph) (G : Sound g) (v : ℕ) (lv : v < length (g .types)) where
       on (inl q) = inl q
       on (inr q) = inr (q .0, h .entry v c (q .0) (q .1))
 
-  only-is : (c : Bool) (ps : List ℕ) (p : ℕ) → only c ps ≡ some p → (c ≡ true) × (ps ≡ p ∷ [])
+  pub only-is : (c : Bool) (ps : List ℕ) (p : ℕ) → only c ps ≡ some p → (c ≡ true) × (ps ≡ p ∷ [])
   only-is true [] p e = absurd (some-none e refl)
   only-is true (q ∷ []) p e = (refl, ap {B = List ℕ} (λ i. i ∷ []) (some-inj e))
   only-is true (q ∷ r ∷ ps) p e = absurd (some-none e refl)

@@ -11,10 +11,10 @@ use native.Mathlib.Omega.{arith}
 use native.Mathlib.Nat.{le-trans, not-suc-le-zero}
 use Rattle.definition.specs.Base.{put, put₂, orElse, before, every, without}
 use Rattle.definition.specs.Form.{Graph, Form, def, with-args}
-use Rattle.definition.specs.Read.{Got, mark, new-param, wait, walk, settle, settle-left, alias, feed-all, resolve, read-all, fill, begin, read-past, read-on, read}
+use Rattle.definition.specs.Read.{Got, mark, new-param, wait, walk, settle, settle-left, alias, feed-all, resolve, read-all, fill, begin, read-past, read-on}
+use Rattle.definition.specs.Read.{read}
 use Rattle.meaning.specs.Path.{In}
-use Rattle.meaning.proofs.Maps.{same?, put-other, put-at}
-use Rattle.meaning.proofs.Lists.{put₂-at}
+use Rattle.meaning.proofs.Maps.{same?, put-other, put-at, put₂-at}
 use Rattle.meaning.proofs.Reading.{Sound, lacks, walked}
 use Rattle.meaning.proofs.Machine.{Has, or-has, Somes, mark-somes, settle-somes, param-somes, fewer, less}
 

@@ -15,14 +15,12 @@ use Rattle.definition.specs.Read.{write}
 use Rattle.definition.specs.Session.{Call, State, session}
 use Rattle.meaning.specs.Machine.{Conf, conf, schedule, visit, turns}
 use Rattle.meaning.specs.Path.{In}
-use Rattle.meaning.proofs.Maps.{put-same, put-other}
-use Rattle.meaning.proofs.Lists.{snds}
+use Rattle.meaning.proofs.Maps.{put-same, put-other, false-true, some-none, ltb-yes, put₂-at, ltb-no}
+use Rattle.meaning.proofs.Lists.{snds, has-in, in-has}
 use Rattle.meaning.proofs.Inv.{Inv, pending}
-use Rattle.meaning.proofs.Keeping.{false-true}
-use Rattle.meaning.proofs.Reading.{Sound, some-none}
+use Rattle.meaning.proofs.Reading.{Sound}
 use Rattle.meaning.proofs.Sealing.{idle}
 use Rattle.meaning.proofs.Machine.{Has}
-use Rattle.meaning.proofs.Whole.{has-in, in-has}
 use Rattle.meaning.proofs.Heights.{Within, run-within}
 use Rattle.meaning.proofs.Fall.{use-within, seal-within}
 use Rattle.meaning.proofs.Ranges.{Bounds, Ranged}
@@ -85,8 +83,8 @@ module _ (g : Graph) (G : Sound g) (B : Bounds g) (s : Form) (kp : ℕ → List 
       by₂ lt false b = nil (h .unfed p i (λ _ e _. false-true b e))
 
       by : (x : Bool) → ltb i (length (g .dests p)) ≡ x → length (s .args p i) ≤ length (g .types)
-      by true a = by₂ (lib.Dec.ltb→lt i (length (g .dests p)) (Rattle.meaning.proofs.Maps.true-T (ltb i (length (g .dests p))) a)) (g .sealed (getD (g .dests p) i 0)) refl
-      by false a = let k = Rattle.meaning.proofs.Whole.ltb-no i (length (g .dests p)) a in nil (h .unfed p i (λ l _ _. absurd (omega (arith, l, k))))
+      by true a = by₂ (ltb-yes i (length (g .dests p)) a) (g .sealed (getD (g .dests p) i 0)) refl
+      by false a = let k = ltb-no i (length (g .dests p)) a in nil (h .unfed p i (λ l _ _. absurd (omega (arith, l, k))))
 
   -- before the arguments of a parameter that is kept
   pub feed-room : (b v x : ℕ) (ws : List (ℕ × ℕ)) → g .sealed b ≡ true → op b ≡ (v, x) ∷ ws → (p i : ℕ) → In p (g .preds b) → i < length (g .dests p) → getD (g .dests p) i 0 ≡ b → suc (length (s .args p i)) ≤ length (g .types)
@@ -108,7 +106,7 @@ value-room N M A Z s k v c h lv lc lack =
     (omega (arith, h .values, f), omega (arith, h .zeros, f))
   where
     has-it : def (write v c 0 s) v c ≡ some 0
-    has-it = ap (λ (o : Option ℕ). orElse o (s .entry v c)) (Rattle.meaning.proofs.Lists.put₂-at v c (some 0) (s .own) v c refl refl)
+    has-it = ap (λ (o : Option ℕ). orElse o (s .entry v c)) (put₂-at v c (some 0) (s .own) v c refl refl)
 
 -- all rooms
 pub record Rooms (g : Graph) (s : Form) : Type 0 where

@@ -12,12 +12,11 @@ use Rattle.definition.specs.Form.{Graph, Form, def}
 use Rattle.definition.specs.Read.{set-pending, fill, read, depth, settle-pending}
 use Rattle.definition.specs.Session.{mark-sealed, seal-form}
 use Rattle.meaning.specs.Path.{In}
-use Rattle.meaning.proofs.Maps.{same?, put-same, put-other, put-at}
+use Rattle.meaning.proofs.Maps.{same?, put-same, put-other, put-at, false-true}
 use Rattle.meaning.proofs.Facts.{Edge, same, kept}
 use Rattle.meaning.proofs.Lists.{PIn, snds}
 use Rattle.meaning.proofs.Inv.{Grow, grow-refl, grow-trans, pending, Nought, Inv, edge-grow, kept-par}
-use Rattle.meaning.proofs.Keeping.{false-true}
-use Rattle.meaning.proofs.Reading.{lacks, Sound, filled, reads}
+use Rattle.meaning.proofs.Reading.{lacks, Sound, filled, reads, is-none}
 
 abbrev pub idle : ℕ → List (ℕ × ℕ)
 idle b = []
@@ -26,7 +25,7 @@ pub lacks-le : (v : ℕ) (s : Form) (n : ℕ) → lacks v s n ≤ n
 lacks-le v s zero = omega arith
 lacks-le v s (suc n) = by (def s v n) (lacks-le v s n)
   where
-    by : (d : Option ℕ) → lacks v s n ≤ n → Rattle.meaning.proofs.Reading.is-none d + lacks v s n ≤ suc n
+    by : (d : Option ℕ) → lacks v s n ≤ n → is-none d + lacks v s n ≤ suc n
     by none h = omega arith
     by (some x) h = omega arith
 

@@ -3,27 +3,23 @@ use Prim.Native.Nat.{ℕ, suc, _+_, _<_}
 use mathlib.Core.Path.{_≡_, _∙_, subst}
 use mathlib.Core.Bool.{true, false}
 use mathlib.Core.List.{List, [], _∷_, _++_}
-use lib.ListN.{length}
+use lib.ListN.{length, length-append}
 use native.Mathlib.Omega.{arith}
 use Rattle.definition.specs.Base.{put}
 use Rattle.definition.specs.Form.{Graph, Form, def}
-use Rattle.definition.specs.Read.{read, depth, set-pending, settle-pending}
-use Rattle.definition.specs.Session.{Call, State, session, mark-sealed, seal-form}
+use Rattle.definition.specs.Read.{read, depth, set-pending, settle-pending, resolve}
+use Rattle.definition.specs.Session.{Call, State, session, mark-sealed, seal-form, Reply, no, ok, reply, after, step, run, empty}
 use Rattle.meaning.specs.Machine.{conf, schedule, visit, turns}
 use Rattle.meaning.proofs.Maps.{put-same}
 use Rattle.meaning.proofs.Reading.{Sound}
 use Rattle.meaning.proofs.Sealing.{idle}
-use Rattle.meaning.proofs.Ranges.{Bounds, Ranged}
+use Rattle.meaning.proofs.Ranges.{Bounds, Ranged, follow-below}
 use Rattle.meaning.proofs.Rest.{read-rest, seal-rest, mark-rest, some-rest, bounds-sealed, at-head}
 use Rattle.meaning.proofs.Sure.{Always, sure, full}
 use Rattle.meaning.proofs.Rooms.{Rooms, rooms-of, Resting, Moment, moment-turn, use-moment, seal-moment}
 use Rattle.meaning.proofs.Stored.{Stored, stored-of}
-use Rattle.definition.specs.Read.{resolve}
-use Rattle.definition.specs.Session.{Reply, no, ok, reply, after, step, run, empty}
 use Rattle.meaning.proofs.Inv.{Inv}
 use Rattle.meaning.proofs.Alias.{root-is}
-use Rattle.meaning.proofs.Ranges.{follow-below}
-use lib.ListN.{length-append}
 
 pub record Steady (g : Graph) (s : Form) : Type 0 where
   pub sound : Sound g

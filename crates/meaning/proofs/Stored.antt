@@ -15,13 +15,11 @@ use Rattle.definition.specs.Read.{Walk, on-to, past, walk, single}
 use Rattle.definition.specs.Session.{Call, session}
 use Rattle.meaning.specs.Machine.{Conf}
 use Rattle.meaning.specs.Path.{In}
-use Rattle.meaning.proofs.Maps.{true-T}
-use Rattle.meaning.proofs.Lists.{Nodup, PIn}
+use Rattle.meaning.proofs.Maps.{false-true, ltb-no, ltb-yes}
+use Rattle.meaning.proofs.Lists.{Nodup, PIn, has-in}
 use Rattle.meaning.proofs.Inv.{Inv, pending}
-use Rattle.meaning.proofs.Keeping.{false-true}
-use Rattle.meaning.proofs.Reading.{Sound, Trail, walked}
+use Rattle.meaning.proofs.Reading.{Sound, Trail, walked, only-is}
 use Rattle.meaning.proofs.Sealing.{idle}
-use Rattle.meaning.proofs.Whole.{has-in, ltb-no}
 use Rattle.meaning.proofs.Ranges.{Bounds, Ranged}
 use Rattle.meaning.proofs.Mid.{pigeon, at-work}
 use Rattle.meaning.proofs.Sure.{sure, full}
@@ -85,7 +83,7 @@ stored-of g G B s kp op h R = record {
 
     args : (p i a : ℕ) → In a (s .args p i) → (z : Bool) → ltb i (length (g .dests p)) ≡ z → (p < g .blocks) × (i < length (g .dests p)) × (a < s .next)
     args p i a j true e =
-        let lt = lib.Dec.ltb→lt i (length (g .dests p)) (true-T (ltb i (length (g .dests p))) e) in
+        let lt = ltb-yes i (length (g .dests p)) e in
         (B .branches p (B .from p (getD (g .dests p) i 0) (getD-in (g .dests p) i lt)), lt, R .args p i a j)
     args p i a j false e =
         let k = ltb-no i (length (g .dests p)) e in
@@ -137,13 +135,7 @@ module _ (g : Graph) (G : Sound g) (v : ℕ) (lv : v < length (g .types)) (s : F
   trail-low : (l : List ℕ) (b e : ℕ) → b < g .blocks → Trail g G v lv s b l e → (c : ℕ) → In c l → (c < g .blocks) × (def s v c ≡ none)
   trail-low [] b e lb t c i = absurd i
   trail-low (d ∷ l) b e lb t c (inl q) = (subst (λ (j : ℕ). j < g .blocks) (t .0 ∙ sym q) lb, ap (def s v) q ∙ t .1)
-  trail-low (d ∷ l) b e lb t c (inr i) = trail-low l (t .2 .0) e (G .range d (t .2 .0) (one (g .sealed d) (g .preds d) (t .2 .0) (t .2 .1))) (t .2 .2) c i
-    where
-      one : (z : Bool) (ps : List ℕ) (p : ℕ) → Rattle.definition.specs.Read.only z ps ≡ some p → In p ps
-      one true [] p q = absurd (Rattle.meaning.proofs.Reading.some-none q refl)
-      one true (r ∷ []) p q = inl (sym (Rattle.meaning.proofs.Maps.some-inj q))
-      one true (r ∷ r′ ∷ ps) p q = absurd (Rattle.meaning.proofs.Reading.some-none q refl)
-      one false ps p q = absurd (Rattle.meaning.proofs.Reading.some-none q refl)
+  trail-low (d ∷ l) b e lb t c (inr i) = trail-low l (t .2 .0) e (G .range d (t .2 .0) (subst (λ (k : List ℕ). In (t .2 .0) k) (sym (only-is g G v lv (g .sealed d) (g .preds d) (t .2 .0) (t .2 .1) .1)) (inl refl))) (t .2 .2) c i
 
   pub walk-room : (b : ℕ) → b < g .blocks → def s v b ≡ none → (n : ℕ) → (length (walk n g s v [] b .passed) ≤ g .blocks) × ((c : ℕ) → In c (walk n g s v [] b .passed) → (c < g .blocks) × (def s v c ≡ none)) × (walk n g s v [] b .end < g .blocks)
   walk-room b lb e n =

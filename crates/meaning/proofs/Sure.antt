@@ -12,17 +12,18 @@ use native.Mathlib.Nat.{le-trans, not-suc-le-zero}
 use Rattle.definition.specs.Base.{put, put₂, orElse, has, upFrom}
 use Rattle.definition.specs.Form.{Graph, Form, Info, Sort, made, param, nought, with-makes}
 use Rattle.definition.specs.Read.{type-of, write, make, place-block}
-use Rattle.definition.specs.Session.{Call, Done, State, Reply, no, ok, refuse_when_else_, declared-anywhere, no-block, no-var, no-value, no-branch, declare-block, declare-var, make-value, define, use-var, new-branch, new-dest, add-pred, drop-pred, seal, seal-form, mark-sealed, seal-each, seal-all, define-answer, answered, reply, tick, after, step, run, empty, session}
+use Rattle.definition.specs.Session.{Call, Done, State, Reply, no, ok, refuse_when_else_, declared-anywhere, no-block, no-var, no-value, no-branch}
+use Rattle.definition.specs.Session.{declare-block, declare-var, make-value, define, use-var, new-branch, new-dest, add-pred, drop-pred, seal, seal-form}
+use Rattle.definition.specs.Session.{mark-sealed, seal-each, seal-all, define-answer, answered, reply, tick, after, step, run, empty, session}
 use Rattle.meaning.specs.Path.{In}
-use Rattle.meaning.proofs.Maps.{same?, put-other, put-at, eqb-eq}
-use Rattle.meaning.proofs.Lists.{in-cases, put₂-at, put₂-other, here?}
+use Rattle.meaning.proofs.Maps.{same?, put-other, put-at, eqb-eq, put₂-at, put₂-other, here?, false-true, some-none, ltb-no, leb-no, or-no, not-no}
+use Rattle.meaning.proofs.Maps.{and-both, some-inj}
+use Rattle.meaning.proofs.Lists.{in-cases}
 use Rattle.meaning.proofs.Inv.{in-one}
-use Rattle.meaning.proofs.Keeping.{false-true}
-use Rattle.meaning.proofs.Reading.{some-none}
 use Rattle.meaning.proofs.Sealing.{idle}
 use Rattle.meaning.proofs.Machine.{Has, Somes}
 use Rattle.meaning.proofs.Room.{waiting}
-use Rattle.meaning.proofs.Whole.{Whole, Fine, fine, ltb-no, leb-no, or-no, not-no}
+use Rattle.meaning.proofs.Whole.{Whole, Fine, fine}
 use Rattle.meaning.proofs.Demand.{Good, empty-good, after-good}
 use Rattle.meaning.proofs.Causing.{new-caused}
 use Rattle.meaning.proofs.Ranges.{Bounds, Ranged, placed-once, placed-in}
@@ -112,7 +113,7 @@ write-ranged g s v b x h lv lb lx = record {
     owns w c e q (inl k) = (
       subst (λ (j : ℕ). j < length (g .types)) (sym (k .0)) lv,
       subst (λ (j : ℕ). j < g .blocks) (sym (k .1)) lb,
-      subst (λ (j : ℕ). j < s .next) (Rattle.meaning.proofs.Maps.some-inj (sym (put₂-at v b (some x) (s .own) w c (k .0) (k .1)) ∙ q)) lx,
+      subst (λ (j : ℕ). j < s .next) (some-inj (sym (put₂-at v b (some x) (s .own) w c (k .0) (k .1)) ∙ q)) lx,
     )
     owns w c e q (inr n) = h .owns w c e (sym (put₂-other v b (some x) (s .own) w c n) ∙ q)
 
@@ -135,15 +136,11 @@ answered-last : (ds : List Done) (d : Done) (i x : ℕ) → answered (ds ++ d �
 answered-last [] d zero x q = by (eqb (d .asked .kind) 6 && eqb (d .code) 0) q
   where
     by : (z : Bool) → cond z (some (d .number)) none ≡ some x → (_≡_ {A = Option ℕ} none (some x)) ⊎ ((z ≡ true) × (d .number ≡ x))
-    by true e = inr (refl, Rattle.meaning.proofs.Maps.some-inj e)
+    by true e = inr (refl, some-inj e)
     by false e = inl e
 answered-last [] d (suc i) x q = inl q
 answered-last (e ∷ ds) d zero x q = inl q
 answered-last (e ∷ ds) d (suc i) x q = answered-last ds d i x q
-
-pub and-both : (a b : Bool) → a && b ≡ true → (a ≡ true) × (b ≡ true)
-and-both true b e = (refl, e)
-and-both false b e = absurd (false-true refl e)
 
 module _ (N M A Z : ℕ) (eN : 64 ≤ N) (eM : 64 ≤ M) where
   pub record Safe (g : Graph) (s : Form) : Type 0 where

@@ -5,20 +5,22 @@ use mathlib.Core.Logic.{_≢_, _⊎_, inl, inr}
 use mathlib.Core.Bool.{Bool, true, false, cond, not, _&&_, _||_}
 use mathlib.Core.Option.{Option, none, some}
 use mathlib.Core.List.{List, [], _∷_, _++_, append-nil, map}
-use lib.Dec.{eqb, ltb, leb, T, nltb→le, nleb→lt}
+use lib.Dec.{eqb, ltb, leb}
 use lib.ListN.{length, getD, length-append, List·getD-append}
 use native.Mathlib.Omega.{arith}
 use native.Mathlib.Nat.{le-trans}
 use Rattle.definition.specs.Base.{put, put₂, orElse, has, any, upFrom}
 use Rattle.definition.specs.Form.{Graph, Form, Info, made, param, def, with-makes}
 use Rattle.definition.specs.Read.{type-of, write, make, place-block, read, depth}
-use Rattle.definition.specs.Session.{Call, Done, Reply, no, ok, refuse_when_else_, declared-anywhere, no-block, no-var, no-value, no-branch, declare-block, declare-var, make-value, define, use-var, new-branch, new-dest, add-pred, drop-pred, swap-out, but-last, last, seal, seal-form, mark-sealed, seal-each, seal-all, define-answer, answered, reply}
+use Rattle.definition.specs.Session.{Call, Done, Reply, no, ok, refuse_when_else_, declared-anywhere, no-block, no-var, no-value, no-branch, declare-block}
+use Rattle.definition.specs.Session.{declare-var, make-value, define, use-var, new-branch, new-dest, add-pred, drop-pred, swap-out, but-last, last, seal}
+use Rattle.definition.specs.Session.{seal-form, mark-sealed, seal-each, seal-all, define-answer, answered, reply}
 use Rattle.meaning.specs.Path.{In, Act, makes, gives, uses, act, acts, if-so, declares, defines}
-use Rattle.meaning.proofs.Maps.{same?, put-same, put-other, put-at, eqb-same, eqb-diff}
+use Rattle.meaning.proofs.Maps.{same?, put-same, put-other, put-at, eqb-same, eqb-diff, put₂-at, put₂-other, false-true, or-no, leb-no, ltb-no}
+use Rattle.meaning.proofs.Maps.{not-no}
 use Rattle.meaning.proofs.Facts.{cur}
-use Rattle.meaning.proofs.Lists.{Nodup, nodup-snoc, in-left, in-right, in-cases, put₂-at, put₂-other}
+use Rattle.meaning.proofs.Lists.{Nodup, nodup-snoc, in-left, in-right, in-cases, has-in, in-has}
 use Rattle.meaning.proofs.Inv.{Grow, grow-refl, grow-trans, Inv, make-inv, make-grow}
-use Rattle.meaning.proofs.Keeping.{false-true}
 use Rattle.meaning.proofs.Settle.{relog-inv, relog-grow, map-in}
 use Rattle.meaning.proofs.Reading.{Sound, Read, reads}
 use Rattle.meaning.proofs.Sealing.{idle, shallow, sealed-one}
@@ -55,38 +57,6 @@ module _ (E : Type 0) (g : Graph) (s : Form) (ds : List Done) (h : Whole E g s d
       on : (b p : ℕ) → (In p (g .preds b) → (e : Done) × In e ds × (declares p e ≡ true)) → In p (g .preds b) ⊎ (declares p d ≡ true) → (e : Done) × In e (ds ++ d ∷ []) × (declares p e ≡ true)
       on b p old (inl j) = let k = old j in (k .0, in-left (k .0) ds (d ∷ []) (k .1), k .2)
       on b p old (inr e) = (d, in-right d ds (d ∷ []) (inl refl), e)
-
--- tests
-pub ltb-no : (m n : ℕ) → ltb m n ≡ false → n ≤ m
-ltb-no m n e = nltb→le m n (subst (λ (b : Bool). T (not b)) (sym e) tt)
-
-pub leb-no : (m n : ℕ) → leb m n ≡ false → n < m
-leb-no m n e = nleb→lt m n (subst (λ (b : Bool). T (not b)) (sym e) tt)
-
-pub or-no : (a b : Bool) → a || b ≡ false → (a ≡ false) × (b ≡ false)
-or-no true b e = absurd (false-true e refl)
-or-no false b e = (refl, e)
-
-pub not-no : (a : Bool) → not a ≡ false → a ≡ true
-not-no true e = refl
-not-no false e = absurd (false-true e refl)
-
-pub has-in : (p : ℕ) (l : List ℕ) → In p l → has p l ≡ true
-has-in p [] i = absurd i
-has-in p (q ∷ l) (inl e) = rw (ap (λ (k : ℕ). eqb k q) e ∙ eqb-same q) refl
-has-in p (q ∷ l) (inr i) = by (eqb p q) (has-in p l i)
-  where
-    by : (b : Bool) → has p l ≡ true → b || has p l ≡ true
-    by true e = refl
-    by false e = e
-
-pub in-has : (p : ℕ) (l : List ℕ) → has p l ≡ true → In p l
-in-has p [] e = absurd (false-true refl e)
-in-has p (q ∷ l) e = by (same? p q) (in-has p l)
-  where
-    by : (p ≡ q) ⊎ (p ≢ q) → (has p l ≡ true → In p l) → In p (q ∷ l)
-    by (inl k) below = inl k
-    by (inr n) below = inr (below (rw (eqb-diff p q n) at e))
 
 some-no : (f : ℕ → Bool) (l : List ℕ) → any f l ≡ false → (x : ℕ) → In x l → f x ≡ false
 some-no f [] e x i = absurd i
