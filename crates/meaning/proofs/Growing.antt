@@ -9,15 +9,20 @@ use lib.Dec.{eqb}
 use lib.ListN.{length, getD}
 use native.Mathlib.Omega.{arith}
 use native.Mathlib.Nat.{le-of-suc-le-suc, not-suc-le-zero}
-use Rattle.definition.specs.Base.{put, put₂}
-use Rattle.definition.specs.Form.{Graph, Form, Info, param, def}
-use Rattle.definition.specs.Read.{resolve, type-of, is-dest, feed, feed-all}
+use Rattle.definition.specs.Base.{put₂}
+use Rattle.definition.specs.Read.{new-param, resolve, type-of, is-dest, feed, feed-all}
+use Rattle.definition.specs.Form.{with-pending, Graph, Form, Info, param, def}
 use Rattle.meaning.specs.Path.{In}
+use Rattle.meaning.specs.Stored.{Nodup}
 use Rattle.meaning.proofs.Maps.{same?, put-same, put-other, put-at, eqb-same, eqb-diff, eqb-eq, some-inj, put₂-at, put₂-other, here?}
 use Rattle.meaning.proofs.Facts.{Edge}
 use Rattle.meaning.proofs.Alias.{tree-suc, follow-suc}
-use Rattle.meaning.proofs.Lists.{in-cases, Nodup, nodup-snoc, PIn, snds, snds-append, pin-left, pin-last, pin-cases}
+use Rattle.meaning.proofs.Lists.{in-cases, nodup-snoc, PIn, snds, snds-append, pin-left, pin-last, pin-cases}
 use Rattle.meaning.proofs.Inv.{Grow, pending, Nought, Param, Inv, edge-grow, nought-grow, pending-par, kept-par, in-one}
+
+-- the form with a new parameter for v on c, where ws waits
+abbrev pub grown : Graph → Form → ℕ → ℕ → (ℕ → List (ℕ × ℕ)) → Form
+grown g s v c ws = with-pending (new-param g v c s) ws
 
 module _ (g : Graph) (E : Type 0) where
   -- 4. a new parameter x for v on c
@@ -30,40 +35,28 @@ module _ (g : Graph) (E : Type 0) where
     abbrev new : Info
     new = record { sort = param; type = type-of g v; home = c }
 
-    abbrev pub grown : Form
-    grown = record {
-      next = suc (s .next);
-      makes = s .makes;
-      info = put (s .next) new (s .info);
-      target = s .target;
-      params = put c (s .params c ++ s .next ∷ []) (s .params);
-      args = s .args;
-      pending = ws;
-      entry = put₂ v c (some (s .next)) (s .entry);
-      own = s .own;
-      zeros = s .zeros;
-      placed = s .placed;
-    }
+    abbrev now : Form
+    now = grown g s v c ws
 
-    grown-info : (y : ℕ) → y < s .next → grown .info y ≡ s .info y
+    grown-info : (y : ℕ) → y < s .next → now .info y ≡ s .info y
     grown-info y l = put-other (s .next) new (s .info) y (omega arith)
 
-    grown-res : (z : ℕ) → resolve grown z ≡ resolve s z
+    grown-res : (z : ℕ) → resolve now z ≡ resolve s z
     grown-res z = follow-suc (s .target) (s .next) z (h .tree)
 
-    pub grown-grow : Grow s grown
+    pub grown-grow : Grow s now
     grown-grow = record { own = λ w b. refl; entry = λ w b e q. by w b e q (here? w v b c); res = λ y z q. grown-res y ∙ q ∙ sym (grown-res z); info = grown-info; more = omega arith }
       where
         by : (w b e : ℕ) → s .entry w b ≡ some e → ((w ≡ v) × (b ≡ c)) ⊎ (w ≡ v → b ≡ c → ⊥) → put₂ v c (some x) (s .entry) w b ≡ some e
         by w b e q (inl k) = absurd (Option·none-ne-some e (sym blank ∙ sym (ap (λ (i : ℕ). s .entry i b) (k .0) ∙ ap (λ (i : ℕ). s .entry v i) (k .1)) ∙ q))
         by w b e q (inr n) = put₂-other v c (some x) (s .entry) w b n ∙ q
 
-    old-par : (b y : ℕ) → Param g s b y → Param g grown b y
+    old-par : (b y : ℕ) → Param g s b y → Param g now b y
     old-par b y r =
         let i = grown-info y (r .below) in
         record { home = ap (λ (j : Info). j .home) i ∙ r .home; sort = ap (λ (j : Info). j .sort) i ∙ r .sort; root = r .root; below = omega (arith, r .below) }
 
-    new-par : Param g grown c x
+    new-par : Param g now c x
     new-par =
         let i = put-same (s .next) new (s .info) in
         record { home = ap (λ (j : Info). j .home) i; sort = ap (λ (j : Info). j .sort) i; root = h .fresh x (omega arith); below = omega arith }
@@ -71,21 +64,21 @@ module _ (g : Graph) (E : Type 0) where
     not-old : (b : ℕ) → In x (s .params b) → ⊥
     not-old b i = omega (arith, h .pars b x i .below)
 
-    at-c : (b : ℕ) → b ≡ c → pending g grown op′ b ≡ pending g s op b ++ (v, x) ∷ []
-    at-c b q = ap (pending g grown op′) q ∙ there ∙ ap (λ (k : ℕ). pending g s op k ++ (v, x) ∷ []) (sym q)
+    at-c : (b : ℕ) → b ≡ c → pending g now op′ b ≡ pending g s op b ++ (v, x) ∷ []
+    at-c b q = ap (pending g now op′) q ∙ there ∙ ap (λ (k : ℕ). pending g s op k ++ (v, x) ∷ []) (sym q)
 
     -- what was pending is
-    still : (w b e : ℕ) → (b ≡ c) ⊎ (b ≢ c) → PIn w e (pending g s op b) → PIn w e (pending g grown op′ b)
+    still : (w b e : ℕ) → (b ≡ c) ⊎ (b ≢ c) → PIn w e (pending g s op b) → PIn w e (pending g now op′ b)
     still w b e (inl q) i = subst (λ (l : List (ℕ × ℕ)). PIn w e l) (sym (at-c b q)) (pin-left w e (pending g s op b) ((v, x) ∷ []) i)
     still w b e (inr n) i = subst (λ (l : List (ℕ × ℕ)). PIn w e l) (sym (elsewhere b n)) i
 
-    old-pend : (w b y : ℕ) → PIn w y (pending g s op b) → (put₂ v c (some x) (s .entry) w b ≡ some y) × (grown .info y .type ≡ type-of g w)
+    old-pend : (w b y : ℕ) → PIn w y (pending g s op b) → (put₂ v c (some x) (s .entry) w b ≡ some y) × (now .info y .type ≡ type-of g w)
     old-pend w b y j = (
       grown-grow .entry w b y (h .pend w b y j .0),
       ap (λ (k : Info). k .type) (grown-info y (h .pars b y (pending-par g E s kp op h w b y j) .below)) ∙ h .pend w b y j .1,
     )
 
-    pub grown-inv : Inv g E grown kp op′
+    pub grown-inv : Inv g E now kp op′
     grown-inv = record {
       known = λ w b e q. known w b e q (here? w v b c);
       edge = λ ok w b e q. edge ok w b e q (here? w v b c);
@@ -106,30 +99,30 @@ module _ (g : Graph) (E : Type 0) where
         known w b e q (inl k) = (subst (λ (j : ℕ). j < length (g .types)) (sym (k .0)) lv, subst (λ (j : ℕ). j < g .blocks) (sym (k .1)) lc)
         known w b e q (inr n) = h .known w b e (sym (put₂-other v c (some x) (s .entry) w b n) ∙ q)
 
-        edge : E → (w b e : ℕ) → put₂ v c (some x) (s .entry) w b ≡ some e → ((w ≡ v) × (b ≡ c)) ⊎ (w ≡ v → b ≡ c → ⊥) → PIn w e (pending g grown op′ b) ⊎ Edge g grown kp w b e
+        edge : E → (w b e : ℕ) → put₂ v c (some x) (s .entry) w b ≡ some e → ((w ≡ v) × (b ≡ c)) ⊎ (w ≡ v → b ≡ c → ⊥) → PIn w e (pending g now op′ b) ⊎ Edge g now kp w b e
         edge ok w b e q (inl k) =
             let is : e ≡ x = some-inj (sym q ∙ put₂-at v c (some x) (s .entry) w b (k .0) (k .1)) in
             inl (rw (at-c b (k .1)) (rw (k .0, is) (pin-last v x (pending g s op b))))
         edge ok w b e q (inr n) = old (h .edge ok w b e (sym (put₂-other v c (some x) (s .entry) w b n) ∙ q))
           where
-            old : PIn w e (pending g s op b) ⊎ Edge g s kp w b e → PIn w e (pending g grown op′ b) ⊎ Edge g grown kp w b e
+            old : PIn w e (pending g s op b) ⊎ Edge g s kp w b e → PIn w e (pending g now op′ b) ⊎ Edge g now kp w b e
             old (inl i) = inl (still w b e (same? b c) i)
-            old (inr d) = inr (edge-grow g s grown kp kp grown-grow w b e (λ i. (h .pars b e (kept-par g E s kp op h b e i) .root, i, λ _ _ _ _ _ _ a. a)) d)
+            old (inr d) = inr (edge-grow g s now kp kp grown-grow w b e (λ i. (h .pars b e (kept-par g E s kp op h b e i) .root, i, λ _ _ _ _ _ _ a. a)) d)
 
-        first : E → (w b e : ℕ) → put₂ v c (some x) (s .entry) w b ≡ some e → g .preds b ≡ [] → ((w ≡ v) × (b ≡ c)) ⊎ (w ≡ v → b ≡ c → ⊥) → PIn w e (pending g grown op′ b) ⊎ Nought g grown w b e
+        first : E → (w b e : ℕ) → put₂ v c (some x) (s .entry) w b ≡ some e → g .preds b ≡ [] → ((w ≡ v) × (b ≡ c)) ⊎ (w ≡ v → b ≡ c → ⊥) → PIn w e (pending g now op′ b) ⊎ Nought g now w b e
         first ok w b e q empty (inl k) =
             let is : e ≡ x = some-inj (sym q ∙ put₂-at v c (some x) (s .entry) w b (k .0) (k .1)) in
             inl (rw (at-c b (k .1)) (rw (k .0, is) (pin-last v x (pending g s op b))))
         first ok w b e q empty (inr n) = old (h .first ok w b e (sym (put₂-other v c (some x) (s .entry) w b n) ∙ q) empty)
           where
-            old : PIn w e (pending g s op b) ⊎ Nought g s w b e → PIn w e (pending g grown op′ b) ⊎ Nought g grown w b e
+            old : PIn w e (pending g s op b) ⊎ Nought g s w b e → PIn w e (pending g now op′ b) ⊎ Nought g now w b e
             old (inl i) = inl (still w b e (same? b c) i)
-            old (inr d) = inr (nought-grow g s grown w b e (grown-res e) (grown-info (resolve s e) (d .below)) (omega arith) d)
+            old (inr d) = inr (nought-grow g s now w b e (grown-res e) (grown-info (resolve s e) (d .below)) (omega arith) d)
 
-        pend : (w b y : ℕ) → (b ≡ c) ⊎ (b ≢ c) → PIn w y (pending g grown op′ b) → (put₂ v c (some x) (s .entry) w b ≡ some y) × (grown .info y .type ≡ type-of g w)
+        pend : (w b y : ℕ) → (b ≡ c) ⊎ (b ≢ c) → PIn w y (pending g now op′ b) → (put₂ v c (some x) (s .entry) w b ≡ some y) × (now .info y .type ≡ type-of g w)
         pend w b y (inl q) i = on (pin-cases w y v x (pending g s op b) (subst (λ (l : List (ℕ × ℕ)). PIn w y l) (at-c b q) i))
           where
-            on : PIn w y (pending g s op b) ⊎ ((w ≡ v) × (y ≡ x)) → (put₂ v c (some x) (s .entry) w b ≡ some y) × (grown .info y .type ≡ type-of g w)
+            on : PIn w y (pending g s op b) ⊎ ((w ≡ v) × (y ≡ x)) → (put₂ v c (some x) (s .entry) w b ≡ some y) × (now .info y .type ≡ type-of g w)
             on (inl j) = old-pend w b y j
             on (inr k) = (
               put₂-at v c (some x) (s .entry) w b (k .0) q ∙ ap {B = Option ℕ} some (sym (k .1)),
@@ -137,26 +130,26 @@ module _ (g : Graph) (E : Type 0) where
             )
         pend w b y (inr n) i = old-pend w b y (subst (λ (l : List (ℕ × ℕ)). PIn w y l) (elsewhere b n) i)
 
-        split : (b : ℕ) → (b ≡ c) ⊎ (b ≢ c) → grown .params b ≡ kp b ++ snds (pending g grown op′ b)
+        split : (b : ℕ) → (b ≡ c) ⊎ (b ≢ c) → now .params b ≡ kp b ++ snds (pending g now op′ b)
         split b (inl q) =
             put-at c (s .params c ++ x ∷ []) (s .params) b q ∙ ap (λ (k : ℕ). s .params k ++ x ∷ []) (sym q) ∙ ap (λ (l : List ℕ). l ++ x ∷ []) (h .split b)
             ∙ append-assoc (kp b) (snds (pending g s op b)) (x ∷ []) ∙ ap (λ (l : List ℕ). kp b ++ l) (sym (snds-append (pending g s op b) ((v, x) ∷ [])))
             ∙ ap (λ (l : List (ℕ × ℕ)). kp b ++ snds l) (sym (at-c b q))
         split b (inr n) = put-other c (s .params c ++ x ∷ []) (s .params) b n ∙ h .split b ∙ ap (λ (l : List (ℕ × ℕ)). kp b ++ snds l) (sym (elsewhere b n))
 
-        pars : (b y : ℕ) → (b ≡ c) ⊎ (b ≢ c) → In y (grown .params b) → Param g grown b y
+        pars : (b y : ℕ) → (b ≡ c) ⊎ (b ≢ c) → In y (now .params b) → Param g now b y
         pars b y (inl q) i = on (in-cases y (s .params c) (x ∷ []) (subst (λ (l : List ℕ). In y l) (put-at c (s .params c ++ x ∷ []) (s .params) b q) i))
           where
-            on : In y (s .params c) ⊎ In y (x ∷ []) → Param g grown b y
+            on : In y (s .params c) ⊎ In y (x ∷ []) → Param g now b y
             on (inl j) = old-par b y (h .pars b y (subst (λ (k : ℕ). In y (s .params k)) (sym q) j))
             on (inr j) = rw (q, in-one y x j) new-par
         pars b y (inr n) i = old-par b y (h .pars b y (subst (λ (l : List ℕ). In y l) (put-other c (s .params c ++ x ∷ []) (s .params) b n) i))
 
-        nodup : (b : ℕ) → (b ≡ c) ⊎ (b ≢ c) → Nodup (grown .params b)
+        nodup : (b : ℕ) → (b ≡ c) ⊎ (b ≢ c) → Nodup (now .params b)
         nodup b (inl q) = subst (λ (l : List ℕ). Nodup l) (sym (put-at c (s .params c ++ x ∷ []) (s .params) b q)) (nodup-snoc (s .params c) x (h .nodup c) (not-old c))
         nodup b (inr n) = subst (λ (l : List ℕ). Nodup l) (sym (put-other c (s .params c ++ x ∷ []) (s .params) b n)) (h .nodup b)
 
-        roots : (y : ℕ) → (grown .info y .sort ≡ param → ⊥) → (y ≡ s .next) ⊎ (y ≢ s .next) → s .target y ≡ y
+        roots : (y : ℕ) → (now .info y .sort ≡ param → ⊥) → (y ≡ s .next) ⊎ (y ≢ s .next) → s .target y ≡ y
         roots y n (inl e) = h .fresh y (omega arith)
         roots y n (inr d) = h .roots y (λ q. n (ap (λ (j : Info). j .sort) (put-other (s .next) new (s .info) y d) ∙ q))
 

@@ -13,10 +13,11 @@ use Rattle.definition.specs.Base.{put, put₂, without}
 use Rattle.definition.specs.Form.{Graph, Form, Info, Sort, param, nought, def}
 use Rattle.definition.specs.Read.{resolve, follow, type-of, mark-one, make, alias}
 use Rattle.meaning.specs.Path.{In}
+use Rattle.meaning.specs.Stored.{Nodup}
 use Rattle.meaning.proofs.Maps.{same?, put-same, put-other, put-at, some-inj, put₂-at, put₂-other, here?}
 use Rattle.meaning.proofs.Facts.{arg-of, Edge, same, kept}
 use Rattle.meaning.proofs.Alias.{Tree, tree-suc, tree-alias, follow-suc, follow-root, follow-keep, follow-move, follow-same}
-use Rattle.meaning.proofs.Lists.{in-left, in-right, Nodup, nodup-apart, without-in, without-mid, nodup-without, PIn, snds, pin-snds, or-mono}
+use Rattle.meaning.proofs.Lists.{in-left, in-right, nodup-apart, without-in, without-mid, nodup-without, PIn, snds, pin-snds, or-mono}
 
 pub nought-param : {k : Sort} → k ≡ nought → k ≡ param → ⊥
 nought-param p q = let z : _≡_ {A = ℕ} 0 1 = cc in omega arith

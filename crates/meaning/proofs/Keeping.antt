@@ -11,10 +11,11 @@ use Rattle.definition.specs.Base.{put}
 use Rattle.definition.specs.Form.{Graph, Form, def, with-args}
 use Rattle.definition.specs.Read.{resolve, type-of, is-dest, feed-all}
 use Rattle.meaning.specs.Path.{In}
+use Rattle.meaning.specs.Stored.{Nodup}
 use Rattle.meaning.proofs.Maps.{same?, put-same, put-other, put-at, some-inj, false-true, bool?}
 use Rattle.meaning.proofs.Facts.{Edge, kept}
 use Rattle.meaning.proofs.Alias.{follow-root}
-use Rattle.meaning.proofs.Lists.{in-left, in-right, Nodup, nodup-apart, PIn, snds, arg-more, arg-last}
+use Rattle.meaning.proofs.Lists.{in-left, in-right, nodup-apart, PIn, snds, arg-more, arg-last}
 use Rattle.meaning.proofs.Inv.{Grow, pending, Nought, Inv, edge-grow, nought-same, pending-par, kept-par}
 use Rattle.meaning.proofs.Growing.{dest-yes, dest-is, Results, Got-one, all-not, all-else, all-here, one-more}
 

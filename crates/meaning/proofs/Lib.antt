@@ -3,6 +3,7 @@ pub mod Alias
 pub mod Facts
 pub mod Lists
 pub mod Sums
+pub mod Lacking
 pub mod Inv
 pub mod Growing
 pub mod Keeping
@@ -17,9 +18,8 @@ pub mod Ranges
 pub mod Along
 pub mod Machine
 pub mod Heights
-pub mod Count
 pub mod Fall
-pub mod Room
+pub mod Load
 pub mod Mid
 pub mod Rest
 pub mod Demand

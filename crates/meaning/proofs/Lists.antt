@@ -1,12 +1,13 @@
 -- Lists of numbers: membership, no duplicates, arguments by parameter. Assumes nothing.
-use Prim.Native.Nat.{ℕ}
+pub use Rattle.meaning.specs.Stored.{Nodup}
+use Prim.Native.Nat.{zero, ℕ, _+_, suc}
 use mathlib.Core.Path.{_≡_, refl, sym, ap, _∙_, subst}
 use mathlib.Core.Logic.{_≢_, _⊎_, inl, inr}
 use mathlib.Core.Bool.{Bool, true, false, cond, _||_}
 use mathlib.Core.Option.{Option, none, some}
-use mathlib.Core.List.{List, [], _∷_, _++_}
+use mathlib.Core.List.{List, [], _∷_, _++_, reverseAux, reverse}
 use lib.Dec.{eqb}
-use lib.ListN.{length}
+use lib.ListN.{length, drop, take}
 use native.Mathlib.Omega.{arith}
 use Rattle.definition.specs.Base.{without, orElse, has}
 use Rattle.meaning.specs.Path.{In}
@@ -54,10 +55,6 @@ not-has x l n = by (has x l) refl
     by : (b : Bool) → has x l ≡ b → b ≡ false
     by true e = absurd (n (in-has x l e))
     by false e = refl
-
-abbrev pub Nodup : List ℕ → Type 0
-Nodup [] = Unit {0}
-Nodup (x ∷ l) = (In x l → ⊥) × Nodup l
 
 pub nodup-snoc : (l : List ℕ) (x : ℕ) → Nodup l → (In x l → ⊥) → Nodup (l ++ x ∷ [])
 nodup-snoc [] x h n = ((λ i. i), tt)
@@ -174,3 +171,46 @@ arg-last (k ∷ K) (u ∷ U) e a n h = rw (eqb-diff e k (λ q. n (inl q))) (arg-
 pub or-mono : (a a′ b b′ : Option ℕ) (o : ℕ) → a′ ≡ a → ((e : ℕ) → b ≡ some e → b′ ≡ some e) → orElse a b ≡ some o → orElse a′ b′ ≡ some o
 or-mono (some x) a′ b b′ o p h q = ap (λ (c : Option ℕ). orElse c b′) p ∙ q
 or-mono none a′ b b′ o p h q = ap (λ (c : Option ℕ). orElse c b′) p ∙ h o q
+
+-- lists of results
+pub take-in : (n : ℕ) (l : List ℕ) (r : ℕ) → In r (take n l) → In r l
+take-in zero l r i = absurd i
+take-in (suc n) [] r i = absurd i
+take-in (suc n) (x ∷ l) r (inl e) = inl e
+take-in (suc n) (x ∷ l) r (inr i) = inr (take-in n l r i)
+
+pub drop-in : (n : ℕ) (l : List ℕ) (r : ℕ) → In r (drop n l) → In r l
+drop-in zero l r i = i
+drop-in (suc n) [] r i = absurd i
+drop-in (suc n) (x ∷ l) r i = inr (drop-in n l r i)
+
+aux-in : (l a : List ℕ) (r : ℕ) → In r (reverseAux l a) → In r l ⊎ In r a
+aux-in [] a r i = inr i
+aux-in (x ∷ l) a r i = on (aux-in l (x ∷ a) r i)
+  where
+    on : In r l ⊎ In r (x ∷ a) → In r (x ∷ l) ⊎ In r a
+    on (inl j) = inl (inr j)
+    on (inr (inl e)) = inl (inl e)
+    on (inr (inr j)) = inr j
+
+pub reverse-in : (l : List ℕ) (r : ℕ) → In r (reverse l) → In r l
+reverse-in l r i = on (aux-in l [] r i)
+  where
+    on : In r l ⊎ In r [] → In r l
+    on (inl j) = j
+    on (inr j) = absurd j
+
+pub take-length : (n m : ℕ) (l : List ℕ) → length l ≡ n + m → length (take n l) ≡ n
+take-length zero m l e = refl
+take-length (suc n) m [] e = absurd (omega (arith, e))
+take-length (suc n) m (x ∷ l) e = ap suc (take-length n m l (omega (arith, e)))
+
+pub drop-length : (n m : ℕ) (l : List ℕ) → length l ≡ n + m → length (drop n l) ≡ m
+drop-length zero m l e = omega (arith, e)
+drop-length (suc n) m [] e = absurd (omega (arith, e))
+drop-length (suc n) m (x ∷ l) e = drop-length n m l (omega (arith, e))
+
+-- one more
+pub in-cons : {P : ℕ → Type 0} (x : ℕ) (l : List ℕ) → P x → ((r : ℕ) → In r l → P r) → (r : ℕ) → In r (x ∷ l) → P r
+in-cons {P} x l p h r (inl e) = subst P (sym e) p
+in-cons {P} x l p h r (inr i) = h r i

@@ -1,7 +1,7 @@
 -- Tests, options and maps. Assumes nothing.
 use Prim.Native.Nat.{ℕ, _<_, _≤_}
 use mathlib.Core.Option.{Option·some-injective, Option, some, none, Option·none-ne-some}
-use mathlib.Core.Path.{_≡_, refl, sym, ap, _∙_, subst}
+use mathlib.Core.Path.{fun-ext, _≡_, refl, sym, ap, _∙_, subst}
 use mathlib.Core.Logic.{_≢_, _⊎_, inl, inr}
 use mathlib.Core.Bool.{Bool, true, false, not, _||_, _&&_}
 use lib.Dec.{ltb→lt, eqb, T, eqb→eq, eqb-refl, ltb, leb, nleb→lt, nltb→le}
@@ -75,6 +75,20 @@ module _ {ℓ} {A : Type ℓ} where
 
   pub put-at : (k : ℕ) (a : A) (f : ℕ → A) (j : ℕ) → j ≡ k → put k a f j ≡ a
   put-at k a f j q = ap (λ (i : ℕ). put k a f i) q ∙ put-same k a f
+
+  pub put-id : (k : ℕ) (f : ℕ → A) → put k (f k) f ≡ f
+  put-id k f = fun-ext (λ j. by j (same? j k))
+    where
+      by : (j : ℕ) → (j ≡ k) ⊎ (j ≢ k) → put k (f k) f j ≡ f j
+      by j (inl q) = put-at k (f k) f j q ∙ ap f (sym q)
+      by j (inr n) = put-other k (f k) f j n
+
+  pub put-put : (k : ℕ) (a b : A) (f : ℕ → A) → put k a (put k b f) ≡ put k a f
+  put-put k a b f = fun-ext (λ j. by j (same? j k))
+    where
+      by : (j : ℕ) → (j ≡ k) ⊎ (j ≢ k) → put k a (put k b f) j ≡ put k a f j
+      by j (inl q) = put-at k a (put k b f) j q ∙ sym (put-at k a f j q)
+      by j (inr n) = put-other k a (put k b f) j n ∙ put-other k b f j n ∙ sym (put-other k a f j n)
 
 -- maps of two keys
 module _ {A : Type 0} where

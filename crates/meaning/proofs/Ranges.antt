@@ -8,23 +8,27 @@ use mathlib.Core.List.{List, [], _∷_, _++_, map}
 use lib.Dec.{eqb}
 use lib.ListN.{length}
 use native.Mathlib.Omega.{arith}
+use Rattle.entity.specs.Limits.{limits}
+use Rattle.entity.specs.Types.{type-count}
 use Rattle.definition.specs.Base.{put, put₂, without, orElse, every, has}
 use Rattle.definition.specs.Form.{Graph, Form, Info, param, nought, def, with-args, with-entry}
 use Rattle.definition.specs.Read.{Got, resolve, follow, type-of, mark-one, mark, alias, is-dest, feed, feed-all, settle-left, settle}
 use Rattle.meaning.specs.Causes.{Caused}
 use Rattle.meaning.specs.Path.{In}
+use Rattle.meaning.specs.Stored.{Nodup}
+use Rattle.meaning.proofs.Growing.{grown}
 use Rattle.meaning.proofs.Maps.{same?, put-same, put-other, put-at, some-inj, put₂-at, put₂-other, here?, false-true}
-use Rattle.meaning.proofs.Lists.{Nodup, nodup-snoc, in-cases, without-in, has-in}
+use Rattle.meaning.proofs.Lists.{nodup-snoc, in-cases, without-in, has-in}
 use Rattle.meaning.proofs.Inv.{Grow, Param, in-one, nought-param}
 use Rattle.meaning.proofs.Settle.{map-in}
 use Rattle.meaning.proofs.Causing.{new-caused, alias-keeps, alias-caused}
 
 -- the graph
 pub record Bounds (g : Graph) : Type 0 where
-  pub few : g .blocks ≤ 64
-  pub vars : length (g .types) ≤ 64
-  pub typed : (w : ℕ) → w < length (g .types) → type-of g w < 6
-  pub eight : (p : ℕ) → length (g .dests p) ≤ 8
+  pub few : g .blocks ≤ limits .blocks
+  pub vars : length (g .types) ≤ limits .variables
+  pub typed : (w : ℕ) → w < length (g .types) → type-of g w < type-count
+  pub dests : (p : ℕ) → length (g .dests p) ≤ limits .dests
   pub aims : (p b : ℕ) → In b (g .dests p) → b < g .blocks
   pub from : (p b : ℕ) → In b (g .dests p) → g .branch p ≡ true
   pub branches : (p : ℕ) → g .branch p ≡ true → p < g .blocks
@@ -34,7 +38,7 @@ pub record Bounds (g : Graph) : Type 0 where
 pub record Ranged (g : Graph) (s : Form) : Type 0 where
   pub closed : (x : ℕ) → x < s .next → s .target x < s .next
   pub homes : (x : ℕ) → x < s .next → s .info x .home < g .blocks
-  pub types : (x : ℕ) → x < s .next → s .info x .type < 6
+  pub types : (x : ℕ) → x < s .next → s .info x .type < type-count
   pub entries : (w b e : ℕ) → s .entry w b ≡ some e → e < s .next
   pub owns : (w b e : ℕ) → s .own w b ≡ some e → (w < length (g .types)) × (b < g .blocks) × (e < s .next)
   pub args : (p i a : ℕ) → In a (s .args p i) → a < s .next
@@ -137,27 +141,12 @@ module _ (g : Graph) where
       on w b e (inr q) = subst (λ (j : ℕ). j < s .next) (sym q) lx
 
   -- a new parameter for v on c, where this waits afterwards
-  module _ (s : Form) (h : Ranged g s) (v c : ℕ) (ws : ℕ → List (ℕ × ℕ)) (lv : v < length (g .types)) (lc : c < g .blocks) (ty : type-of g v < 6) (fresh : s .target (s .next) ≡ s .next)
+  module _ (s : Form) (h : Ranged g s) (v c : ℕ) (ws : ℕ → List (ℕ × ℕ)) (lv : v < length (g .types)) (lc : c < g .blocks) (ty : type-of g v < type-count) (fresh : s .target (s .next) ≡ s .next)
       (blank : s .entry v c ≡ none) (quiet : (b : ℕ) → g .sealed b ≡ true → ws b ≡ []) where
     abbrev new : Info
     new = record { sort = param; type = type-of g v; home = c }
 
-    abbrev pub more : Form
-    more = record {
-      next = suc (s .next);
-      makes = s .makes;
-      info = put (s .next) new (s .info);
-      target = s .target;
-      params = put c (s .params c ++ s .next ∷ []) (s .params);
-      args = s .args;
-      pending = ws;
-      entry = put₂ v c (some (s .next)) (s .entry);
-      own = s .own;
-      zeros = s .zeros;
-      placed = s .placed;
-    }
-
-    pub more-ranged : Ranged g more
+    pub more-ranged : Ranged g (grown g s v c ws)
     more-ranged = record {
       closed = λ x l. closed x l (same? x (s .next));
       homes = λ x l. homes x l (same? x (s .next));
@@ -166,7 +155,7 @@ module _ (g : Graph) where
       owns = λ w b e q. let k = h .owns w b e q in (k .0, k .1, omega (arith, k .2));
       args = λ p i a k. omega (arith, h .args p i a k);
       still = quiet;
-      caused = new-caused g s (h .caused) more new refl refl (λ w b e q. old w b e q (here? w v b c)) (λ x n. refl) (λ _. (v, lv, put₂-at v c (some (s .next)) (s .entry) v c refl refl)) (λ q. absurd (nought-param q refl));
+      caused = new-caused g s (h .caused) (grown g s v c ws) new refl refl (λ w b e q. old w b e q (here? w v b c)) (λ x n. refl) (λ _. (v, lv, put₂-at v c (some (s .next)) (s .entry) v c refl refl)) (λ q. absurd (nought-param q refl));
       zeros = h .zeros;
       once = h .once;
       placed = h .placed;
@@ -176,13 +165,13 @@ module _ (g : Graph) where
         closed x l (inl e) = subst (λ (j : ℕ). j < suc (s .next)) (sym (ap (s .target) e ∙ fresh)) (omega arith)
         closed x l (inr n) = let k = h .closed x (omega arith) in omega (arith, k)
 
-        homes : (x : ℕ) → x < suc (s .next) → (x ≡ s .next) ⊎ (x ≢ s .next) → more .info x .home < g .blocks
+        homes : (x : ℕ) → x < suc (s .next) → (x ≡ s .next) ⊎ (x ≢ s .next) → (grown g s v c ws) .info x .home < g .blocks
         homes x l (inl e) = subst (λ (j : Info). j .home < g .blocks) (sym (put-at (s .next) new (s .info) x e)) lc
         homes x l (inr n) = subst (λ (j : Info). j .home < g .blocks) (sym (put-other (s .next) new (s .info) x n)) (h .homes x (omega arith))
 
-        types : (x : ℕ) → x < suc (s .next) → (x ≡ s .next) ⊎ (x ≢ s .next) → more .info x .type < 6
-        types x l (inl e) = subst (λ (j : Info). j .type < 6) (sym (put-at (s .next) new (s .info) x e)) ty
-        types x l (inr n) = subst (λ (j : Info). j .type < 6) (sym (put-other (s .next) new (s .info) x n)) (h .types x (omega arith))
+        types : (x : ℕ) → x < suc (s .next) → (x ≡ s .next) ⊎ (x ≢ s .next) → (grown g s v c ws) .info x .type < type-count
+        types x l (inl e) = subst (λ (j : Info). j .type < type-count) (sym (put-at (s .next) new (s .info) x e)) ty
+        types x l (inr n) = subst (λ (j : Info). j .type < type-count) (sym (put-other (s .next) new (s .info) x n)) (h .types x (omega arith))
 
         entries : (w b e : ℕ) → put₂ v c (some (s .next)) (s .entry) w b ≡ some e → ((w ≡ v) × (b ≡ c)) ⊎ (w ≡ v → b ≡ c → ⊥) → e < suc (s .next)
         entries w b e q (inl k) = subst (λ (j : ℕ). j < suc (s .next)) (some-inj (sym (put₂-at v c (some (s .next)) (s .entry) w b (k .0) (k .1)) ∙ q)) (omega arith)
@@ -228,9 +217,9 @@ module _ (g : Graph) where
         homes y l (inl e) = subst (λ (j : Info). j .home < g .blocks) (sym (put-at (s .next) (record { sort = nought; type = s .info x .type; home = b }) (s .info) y e)) lb
         homes y l (inr n) = subst (λ (j : Info). j .home < g .blocks) (sym (put-other (s .next) (record { sort = nought; type = s .info x .type; home = b }) (s .info) y n)) (h .homes y (omega arith))
 
-        types : (y : ℕ) → y < suc (s .next) → (y ≡ s .next) ⊎ (y ≢ s .next) → put (s .next) (record { sort = nought; type = s .info x .type; home = b }) (s .info) y .type < 6
-        types y l (inl e) = subst (λ (j : Info). j .type < 6) (sym (put-at (s .next) (record { sort = nought; type = s .info x .type; home = b }) (s .info) y e)) (h .types x (par .below))
-        types y l (inr n) = subst (λ (j : Info). j .type < 6) (sym (put-other (s .next) (record { sort = nought; type = s .info x .type; home = b }) (s .info) y n)) (h .types y (omega arith))
+        types : (y : ℕ) → y < suc (s .next) → (y ≡ s .next) ⊎ (y ≢ s .next) → put (s .next) (record { sort = nought; type = s .info x .type; home = b }) (s .info) y .type < type-count
+        types y l (inl e) = subst (λ (j : Info). j .type < type-count) (sym (put-at (s .next) (record { sort = nought; type = s .info x .type; home = b }) (s .info) y e)) (h .types x (par .below))
+        types y l (inr n) = subst (λ (j : Info). j .type < type-count) (sym (put-other (s .next) (record { sort = nought; type = s .info x .type; home = b }) (s .info) y n)) (h .types y (omega arith))
 
         zs : (z : ℕ × ℕ) → In z (s .zeros) ⊎ In z ((g .call, b) ∷ []) → (z .0 ≤ g .call) × (z .1 < g .blocks)
         zs z (inl i) = h .zeros z i

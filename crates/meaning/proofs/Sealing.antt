@@ -1,36 +1,32 @@
 -- Sealing a block keeps the invariant. Assumes nothing.
-use Prim.Native.Nat.{ℕ, zero, suc, _+_, _<_, _≤_}
-use mathlib.Core.Path.{_≡_, refl, sym, ap, _∙_, subst, fun-ext}
+use Prim.Native.Nat.{ℕ, _<_}
+use mathlib.Core.Path.{_≡_, refl, sym, ap, _∙_, subst}
 use mathlib.Core.Logic.{_≢_, _⊎_, inl, inr}
 use mathlib.Core.Bool.{true, false}
-use mathlib.Core.Option.{Option, none, some}
+use mathlib.Core.Option.{some}
 use mathlib.Core.List.{List, [], _∷_, _++_}
 use lib.ListN.{length, getD}
 use native.Mathlib.Omega.{arith}
 use Rattle.definition.specs.Base.{put}
-use Rattle.definition.specs.Form.{Graph, Form, def}
+use Rattle.definition.specs.Form.{Graph, Form}
 use Rattle.definition.specs.Read.{set-pending, fill, read, depth, settle-pending}
 use Rattle.definition.specs.Session.{mark-sealed, seal-form}
 use Rattle.meaning.specs.Path.{In}
-use Rattle.meaning.proofs.Maps.{same?, put-same, put-other, put-at, false-true}
+use Rattle.meaning.proofs.Maps.{same?, put-same, put-other, false-true, put-id, put-put}
 use Rattle.meaning.proofs.Facts.{Edge, same, kept}
 use Rattle.meaning.proofs.Lists.{PIn, snds}
 use Rattle.meaning.proofs.Inv.{Grow, grow-refl, grow-trans, pending, Nought, Inv, edge-grow, kept-par}
-use Rattle.meaning.proofs.Reading.{lacks, Sound, filled, reads, is-none}
+use Rattle.meaning.proofs.Lacking.{lacks, lacks-le}
+use Rattle.meaning.proofs.Reading.{Sound, filled, reads}
 
 abbrev pub idle : ℕ → List (ℕ × ℕ)
 idle b = []
 
-pub lacks-le : (v : ℕ) (s : Form) (n : ℕ) → lacks v s n ≤ n
-lacks-le v s zero = omega arith
-lacks-le v s (suc n) = by (def s v n) (lacks-le v s n)
-  where
-    by : (d : Option ℕ) → lacks v s n ≤ n → is-none d + lacks v s n ≤ suc n
-    by none h = omega arith
-    by (some x) h = omega arith
-
 pub shallow : (v : ℕ) (s : Form) (g : Graph) → lacks v s (g .blocks) < depth g
 shallow v s g = omega (arith, lacks-le v s (g .blocks))
+
+pub sound-sealed : (g : Graph) (b : ℕ) → Sound g → Sound (mark-sealed g b)
+sound-sealed g b G = record { range = G .range; nodup = G .nodup; inside = G .inside; names = G .names }
 
 pub record Sealed (g : Graph) (E : Type 0) (s s′ : Form) : Type 0 where
   pub kp : ℕ → List ℕ
@@ -40,16 +36,12 @@ pub record Sealed (g : Graph) (E : Type 0) (s s′ : Form) : Type 0 where
 module _ (g : Graph) (E : Type 0) (G : Sound g) (b : ℕ) (seal : g .sealed b ≡ true) where
   -- the pending variables in turn
   all-settled : (ws : List (ℕ × ℕ)) (s : Form) (kp : ℕ → List ℕ) → Inv g E s kp (put b ws idle) → Sealed g E s (settle-pending g b ws s)
-  all-settled [] s kp h = record { kp = kp; inv = subst (λ (f : ℕ → List (ℕ × ℕ)). Inv g E s kp f) (fun-ext (λ c. on c (same? c b))) h; grow = grow-refl s }
-    where
-      on : (c : ℕ) → (c ≡ b) ⊎ (c ≢ b) → put b [] idle c ≡ []
-      on c (inl q) = put-at b [] idle c q
-      on c (inr n) = put-other b [] idle c n
+  all-settled [] s kp h = record { kp = kp; inv = subst (λ (f : ℕ → List (ℕ × ℕ)). Inv g E s kp f) (put-id b idle) h; grow = grow-refl s }
   all-settled (w ∷ ws) s kp h =
       let v = w .0 in
-      let one = filled g G v lv E (depth g) (read (depth g) g v) (reads g G v lv E (depth g)) b (w .1) ws s kp (put b (w ∷ ws) idle) seal (put-same b (w ∷ ws) idle) h (λ c e. busy c (same? c b)) (shallow v s g) in
+      let one = filled g G v E (depth g) (read (depth g) g v) (reads g G v lv E (depth g)) b (w .1) ws s kp (put b (w ∷ ws) idle) seal (put-same b (w ∷ ws) idle) h (λ c e. busy c (same? c b)) (shallow v s g) in
       let s′ = fill (read (depth g) g v) g b (w .1) s .1 in
-      let rest = all-settled ws s′ (one .kp) (subst (λ (f : ℕ → List (ℕ × ℕ)). Inv g E s′ (one .kp) f) back (one .inv)) in
+      let rest = all-settled ws s′ (one .kp) (subst (λ (f : ℕ → List (ℕ × ℕ)). Inv g E s′ (one .kp) f) (put-put b ws (w ∷ ws) idle) (one .inv)) in
       record { kp = rest .kp; inv = rest .inv; grow = grow-trans s s′ (settle-pending g b ws s′) (one .grow) (rest .grow) }
     where
       here : PIn (w .0) (w .1) (pending g s (put b (w ∷ ws) idle) b)
@@ -61,13 +53,6 @@ module _ (g : Graph) (E : Type 0) (G : Sound g) (b : ℕ) (seal : g .sealed b �
       busy : (c : ℕ) → (c ≡ b) ⊎ (c ≢ b) → (put b (w ∷ ws) idle c ≡ []) ⊎ ((e : ℕ) × (s .entry (w .0) c ≡ some e))
       busy c (inl q) = inr (w .1, ap (s .entry (w .0)) q ∙ h .pend (w .0) b (w .1) here .0)
       busy c (inr n) = inl (put-other b (w ∷ ws) idle c n)
-
-      back : put b ws (put b (w ∷ ws) idle) ≡ put b ws idle
-      back = fun-ext (λ c. on c (same? c b))
-        where
-          on : (c : ℕ) → (c ≡ b) ⊎ (c ≢ b) → put b ws (put b (w ∷ ws) idle) c ≡ put b ws idle c
-          on c (inl q) = put-at b ws (put b (w ∷ ws) idle) c q ∙ sym (put-at b ws idle c q)
-          on c (inr n) = put-other b ws (put b (w ∷ ws) idle) c n ∙ put-other b (w ∷ ws) idle c n ∙ sym (put-other b ws idle c n)
 
 -- the mark alone: what waited is at work
 module _ (g : Graph) (E : Type 0) (s : Form) (kp : ℕ → List ℕ) (h : Inv g E s kp idle) (b : ℕ) (unsealed : g .sealed b ≡ false) where
@@ -141,10 +126,7 @@ module _ (g : Graph) (E : Type 0) (s : Form) (kp : ℕ → List ℕ) (h : Inv g 
       fed p i lt sl ip (inl q) = ap length (h .unfed p i (λ _ z _. false-true unsealed (sym (ap (g .sealed) q) ∙ z)) ∙ sym (h .bare (getD (g .dests p) i 0) (ap (g .sealed) q ∙ unsealed)))
       fed p i lt sl ip (inr n) = h .fed p i lt (sym (else-sealed (getD (g .dests p) i 0) n) ∙ sl) ip
 
-  pub sound-sealed : Sound g → Sound g′
-  sound-sealed G = record { range = G .range; nodup = G .nodup; inside = G .inside; names = G .names }
-
   pub sealed-one : Sound g → Sealed g′ E s (seal-form g s b)
   sealed-one G =
-      let r = all-settled g′ E (sound-sealed G) b is-sealed (s .pending b) s′ kp marked-inv in
+      let r = all-settled g′ E (sound-sealed g b G) b is-sealed (s .pending b) s′ kp marked-inv in
       record { kp = r .kp; inv = r .inv; grow = grow-trans s s′ (seal-form g s b) same-grow (r .grow) }

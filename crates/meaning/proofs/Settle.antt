@@ -11,10 +11,11 @@ use Rattle.definition.specs.Base.{put, without, every}
 use Rattle.definition.specs.Form.{Graph, Form, Info, param, nought, with-args}
 use Rattle.definition.specs.Read.{Got, resolve, make, alias, place-block, log-zero, feed-all, settle-left, settle}
 use Rattle.meaning.specs.Path.{In}
+use Rattle.meaning.specs.Stored.{Nodup}
 use Rattle.meaning.proofs.Maps.{same?, put-same, eqb-diff, eqb-eq, false-true}
 use Rattle.meaning.proofs.Facts.{Edge, same}
 use Rattle.meaning.proofs.Alias.{root-is, follow-root}
-use Rattle.meaning.proofs.Lists.{Nodup, PIn, without-in}
+use Rattle.meaning.proofs.Lists.{PIn, without-in}
 use Rattle.meaning.proofs.Inv.{Grow, grow-trans, def-grow, pending, Nought, Param, Inv, edge-grow, nought-same, pending-par, kept-par, nought-param}
 use Rattle.meaning.proofs.Inv.{make-inv, make-grow, alias-inv, alias-grow, alias-keep, alias-move}
 use Rattle.meaning.proofs.Growing.{Results}

@@ -8,40 +8,24 @@ use mathlib.Core.List.{List, [], _∷_}
 use lib.Dec.{eqb, ltb}
 use lib.ListN.{length, getD}
 use native.Mathlib.Omega.{arith}
-use native.Mathlib.Nat.{le-trans, not-suc-le-zero, le-of-suc-le-suc}
+use native.Mathlib.Nat.{not-suc-le-zero, le-of-suc-le-suc}
 use Rattle.definition.specs.Base.{has}
 use Rattle.definition.specs.Form.{Graph, Form, def}
 use Rattle.definition.specs.Read.{Walk, on-to, past, walk, single}
 use Rattle.definition.specs.Session.{Call, session}
 use Rattle.meaning.specs.Machine.{Conf}
 use Rattle.meaning.specs.Path.{In}
+use Rattle.meaning.specs.Stored.{Nodup, Stored}
 use Rattle.meaning.proofs.Maps.{false-true, ltb-no, ltb-yes}
-use Rattle.meaning.proofs.Lists.{Nodup, PIn, has-in}
+use Rattle.meaning.proofs.Lists.{PIn, has-in}
 use Rattle.meaning.proofs.Inv.{Inv, pending}
 use Rattle.meaning.proofs.Reading.{Sound, Trail, walked, only-is}
 use Rattle.meaning.proofs.Sealing.{idle}
 use Rattle.meaning.proofs.Ranges.{Bounds, Ranged}
-use Rattle.meaning.proofs.Mid.{pigeon, at-work}
-use Rattle.meaning.proofs.Sure.{sure, full}
+use Rattle.meaning.proofs.Sums.{pigeon}
+use Rattle.meaning.proofs.Mid.{at-work}
+use Rattle.meaning.proofs.Sure.{sure}
 use Rattle.meaning.proofs.Rooms.{Moment}
-
-pub record Stored (g : Graph) (s : Form) : Type 0 where
-  pub entry : (w b e : ℕ) → s .entry w b ≡ some e → (w < length (g .types)) × (b < g .blocks) × (e < s .next)
-  pub own : (w b e : ℕ) → s .own w b ≡ some e → (w < length (g .types)) × (b < g .blocks) × (e < s .next)
-  pub params : (b x : ℕ) → In x (s .params b) → (b < g .blocks) × (x < s .next)
-  pub waits : (b w x : ℕ) → PIn w x (s .pending b) → (w < length (g .types)) × (b < g .blocks) × (x < s .next)
-  pub args : (p i a : ℕ) → In a (s .args p i) → (p < g .blocks) × (i < length (g .dests p)) × (a < s .next)
-  pub preds : (b p : ℕ) → In p (g .preds b) → (b < g .blocks) × (p < g .blocks) × In b (g .dests p)
-  pub dests : (p b : ℕ) → In b (g .dests p) → (p < g .blocks) × (b < g .blocks)
-  pub branches : (p : ℕ) → g .branch p ≡ true → p < g .blocks
-  pub sealed : (b : ℕ) → g .sealed b ≡ true → b < g .blocks
-  pub settled : (b : ℕ) → g .sealed b ≡ true → s .pending b ≡ []
-  pub targets : (x : ℕ) → x < s .next → s .target x < s .next
-  pub unused : (x : ℕ) → s .next ≤ x → s .target x ≡ x
-  pub info : (x : ℕ) → x < s .next → (s .info x .home < g .blocks) × (s .info x .type < 6)
-  pub zeros : (z : ℕ × ℕ) → In z (s .zeros) → (z .0 ≤ g .call) × (z .1 < g .blocks)
-  pub placed : (b : ℕ) → In b (s .placed) → b < g .blocks
-  pub once : Nodup (s .placed)
 
 -- so a list in which nothing stands is empty
 pub nil-of : {A : Type 0} (l : List A) → ((x : A) → In x l → ⊥) → l ≡ []
@@ -53,12 +37,17 @@ getD-in [] i h = absurd (not-suc-le-zero h)
 getD-in (x ∷ l) zero h = inl refl
 getD-in (x ∷ l) (suc i) h = inr (getD-in l i (le-of-suc-le-suc h))
 
+pin-of : (w : ℕ × ℕ) (l : List (ℕ × ℕ)) → In w l → PIn (w .0) (w .1) l
+pin-of w [] i = i
+pin-of w (q ∷ l) (inl e) = inl (ap (λ (p : ℕ × ℕ). p .0) e, ap (λ (p : ℕ × ℕ). p .1) e)
+pin-of w (q ∷ l) (inr i) = inr (pin-of w l i)
+
 pub stored-of : (g : Graph) → Sound g → Bounds g → (s : Form) (kp : ℕ → List ℕ) (op : ℕ → List (ℕ × ℕ)) → Inv g ⊥ s kp op → Ranged g s → Stored g s
 stored-of g G B s kp op h R = record {
   entry = λ w b e q. let k = h .known w b e q in (k .0, k .1, R .entries w b e q);
   own = R .owns;
   params = λ b x i. let r = h .pars b x i in (subst (λ (j : ℕ). j < g .blocks) (r .home) (R .homes x (r .below)), r .below);
-  waits = λ b w x i. waits b w x i (g .sealed b) refl;
+  waits = λ b w i. waits b (w .0) (w .1) (pin-of w (s .pending b) i) (g .sealed b) refl;
   args = λ p i a j. args p i a j (ltb i (length (g .dests p))) refl;
   preds = λ b p i. (G .inside b p i, G .range b p i, G .names b p i);
   dests = λ p b i. (B .branches p (B .from p b i), B .aims p b i);
@@ -94,10 +83,8 @@ stored cs =
     let h = sure cs in
     stored-of (session cs .graph) (h .whole .sound) (h .safe .bounds) (session cs .form) (h .whole .kp) idle (h .whole .inv) (h .safe .ranged)
 
-pub stored-now : (g : Graph) (G : Sound g) (B : Bounds g) (v : ℕ) (lv : v < length (g .types)) (rest : ℕ → List (ℕ × ℕ)) (k : ℕ) (c : Conf) → Moment g G B v lv rest k c → Stored g (c .form)
-stored-now g G B v lv rest k c m =
-    let h = m .now .0 in
-    stored-of g G B (c .form) (h .kp) (at-work g G B v lv 64 64 8192 4096 (le-trans (B .few) full) (le-trans (B .vars) full) (c .tasks) rest) (h .inv) (h .ranged)
+pub stored-now : (g : Graph) → Sound g → Bounds g → (v : ℕ) (rest : ℕ → List (ℕ × ℕ)) (k : ℕ) (c : Conf) → Moment g v rest k c → Stored g (c .form)
+stored-now g G B v rest k c m = let h = m .now .0 in stored-of g G B (c .form) (h .kp) (at-work v (c .tasks) rest) (h .inv) (h .ranged)
 
 -- A walk passes no block twice, so at most as many as there are.
 module _ (g : Graph) (s : Form) (v : ℕ) where
@@ -130,16 +117,16 @@ module _ (g : Graph) (s : Form) (v : ℕ) where
               all w c (inl q) = ap (λ (j : ℕ). has j seen) q ∙ e
               all w c (inr i) = or-right (eqb c b) (has c seen) (w .unseen c i)
 
-module _ (g : Graph) (G : Sound g) (v : ℕ) (lv : v < length (g .types)) (s : Form) where
+module _ (g : Graph) (G : Sound g) (v : ℕ) (s : Form) where
   -- the blocks passed are there, without a definition of v, and sealed
-  trail-low : (l : List ℕ) (b e : ℕ) → b < g .blocks → Trail g G v lv s b l e → (c : ℕ) → In c l → (c < g .blocks) × (def s v c ≡ none)
+  trail-low : (l : List ℕ) (b e : ℕ) → b < g .blocks → Trail g v s b l e → (c : ℕ) → In c l → (c < g .blocks) × (def s v c ≡ none)
   trail-low [] b e lb t c i = absurd i
   trail-low (d ∷ l) b e lb t c (inl q) = (subst (λ (j : ℕ). j < g .blocks) (t .0 ∙ sym q) lb, ap (def s v) q ∙ t .1)
-  trail-low (d ∷ l) b e lb t c (inr i) = trail-low l (t .2 .0) e (G .range d (t .2 .0) (subst (λ (k : List ℕ). In (t .2 .0) k) (sym (only-is g G v lv (g .sealed d) (g .preds d) (t .2 .0) (t .2 .1) .1)) (inl refl))) (t .2 .2) c i
+  trail-low (d ∷ l) b e lb t c (inr i) = trail-low l (t .2 .0) e (G .range d (t .2 .0) (subst (λ (k : List ℕ). In (t .2 .0) k) (sym (only-is (g .sealed d) (g .preds d) (t .2 .0) (t .2 .1) .1)) (inl refl))) (t .2 .2) c i
 
   pub walk-room : (b : ℕ) → b < g .blocks → def s v b ≡ none → (n : ℕ) → (length (walk n g s v [] b .passed) ≤ g .blocks) × ((c : ℕ) → In c (walk n g s v [] b .passed) → (c < g .blocks) × (def s v c ≡ none)) × (walk n g s v [] b .end < g .blocks)
   walk-room b lb e n =
       let w = walk n g s v [] b in
-      let y = walked g G v lv n s [] b lb e in
+      let y = walked g G v n s [] b lb e in
       let low = trail-low (w .passed) b (w .end) lb (y .trail) in
       (pigeon some (g .blocks) (w .passed) (walk-fresh g s v n [] b .nodup) (λ c i. (c, low c i .0, refl)), low, y .low)

@@ -12,13 +12,18 @@ use native.Mathlib.Nat.{not-suc-le-zero}
 use Rattle.definition.specs.Base.{has}
 use Rattle.definition.specs.Session.{bit}
 use Rattle.meaning.specs.Path.{In}
+use Rattle.meaning.specs.Stored.{Nodup}
 use Rattle.meaning.proofs.Maps.{same?, eqb-same, eqb-diff}
-use Rattle.meaning.proofs.Lists.{Nodup, has-in, in-has, not-has}
+use Rattle.meaning.proofs.Lists.{has-in, in-has, not-has}
 
 -- f 0 + .. + f (n - 1). Shut, so that a sum up to a limit is not written out.
 pub sum : (ℕ → ℕ) → ℕ → ℕ
 sum f zero = zero
 sum f (suc n) = f n + sum f n
+
+pub sum-suc : (f : ℕ → ℕ) (n : ℕ) → sum f (suc n) ≡ f n + sum f n
+unfolding sum
+sum-suc f n = refl
 
 pub sum-le : (f g : ℕ → ℕ) (n : ℕ) → ((i : ℕ) → i < n → f i ≤ g i) → sum f n ≤ sum g n
 unfolding sum
@@ -64,10 +69,15 @@ sum-change f g x (suc n) h l = by (same? n x) (sum-change f g x n h)
         omega (arith, up, down, ap f e, ap g e)
     by (inr d) below = omega (arith, h n d, below (omega arith))
 
-pub sum-add : (f g : ℕ → ℕ) (n : ℕ) → sum (λ i. f i + g i) n ≡ sum f n + sum g n
+sum-add : (f g : ℕ → ℕ) (n : ℕ) → sum (λ i. f i + g i) n ≡ sum f n + sum g n
 unfolding sum
 sum-add f g zero = refl
 sum-add f g (suc n) = omega (arith, sum-add f g n)
+
+pub sum-sucs : (f : ℕ → ℕ) (n : ℕ) → sum (λ i. suc (f i)) n ≡ n + sum f n
+unfolding sum
+sum-sucs f zero = refl
+sum-sucs f (suc n) = omega (arith, sum-sucs f n)
 
 -- over rows or over columns
 pub sum-swap : (h : ℕ → ℕ → ℕ) (m n : ℕ) → sum (λ b. sum (h b) m) n ≡ sum (λ p. sum (λ b. h b p) n) m
@@ -79,7 +89,7 @@ pub bit-mono : (a b : Bool) → (a ≡ true → b ≡ true) → bit a ≤ bit b
 bit-mono true b h = subst (λ (c : Bool). 1 ≤ bit c) (sym (h refl)) (omega arith)
 bit-mono false b h = omega arith
 
-bit-most : (a : Bool) → bit a ≤ 1
+pub bit-most : (a : Bool) → bit a ≤ 1
 bit-most true = omega arith
 bit-most false = omega arith
 

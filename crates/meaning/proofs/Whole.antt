@@ -9,6 +9,8 @@ use lib.Dec.{eqb, ltb, leb}
 use lib.ListN.{length, getD, length-append, List·getD-append}
 use native.Mathlib.Omega.{arith}
 use native.Mathlib.Nat.{le-trans}
+use Rattle.entity.specs.Types.{type-count}
+use Rattle.entity.specs.Limits.{limits}
 use Rattle.definition.specs.Base.{put, put₂, orElse, has, any, upFrom}
 use Rattle.definition.specs.Form.{Graph, Form, Info, made, param, def, with-makes}
 use Rattle.definition.specs.Read.{type-of, write, make, place-block, read, depth}
@@ -16,14 +18,15 @@ use Rattle.definition.specs.Session.{Call, Done, Reply, no, ok, refuse_when_els
 use Rattle.definition.specs.Session.{declare-var, make-value, define, use-var, new-branch, new-dest, add-pred, drop-pred, swap-out, but-last, last, seal}
 use Rattle.definition.specs.Session.{seal-form, mark-sealed, seal-each, seal-all, define-answer, answered, reply}
 use Rattle.meaning.specs.Path.{In, Act, makes, gives, uses, act, acts, if-so, declares, defines}
+use Rattle.meaning.specs.Stored.{Nodup}
 use Rattle.meaning.proofs.Maps.{same?, put-same, put-other, put-at, eqb-same, eqb-diff, put₂-at, put₂-other, false-true, or-no, leb-no, ltb-no}
 use Rattle.meaning.proofs.Maps.{not-no}
 use Rattle.meaning.proofs.Facts.{cur}
-use Rattle.meaning.proofs.Lists.{Nodup, nodup-snoc, in-left, in-right, in-cases, has-in, in-has}
+use Rattle.meaning.proofs.Lists.{nodup-snoc, in-left, in-right, in-cases, has-in, in-has}
 use Rattle.meaning.proofs.Inv.{Grow, grow-refl, grow-trans, Inv, make-inv, make-grow}
 use Rattle.meaning.proofs.Settle.{relog-inv, relog-grow, map-in}
 use Rattle.meaning.proofs.Reading.{Sound, Read, reads}
-use Rattle.meaning.proofs.Sealing.{idle, shallow, sealed-one}
+use Rattle.meaning.proofs.Sealing.{idle, shallow, sealed-one, sound-sealed}
 use Rattle.meaning.proofs.Story.{Tells, Keeps, keeps, tells-mono, tells-makes, tells-gives, tells-uses, cur-or, cur-append, acts-append}
 use Rattle.meaning.proofs.Graphs.{wider-inv, aimed-inv, joined-inv, write-inv}
 
@@ -171,7 +174,7 @@ module _ (E : Type 0) (g : Graph) (s : Form) (ds : List Done) (h : Whole E g s d
   untyped w l = (l, refl)
 
   fine-block : Quiet → (x : ℕ) → Fine (declare-block g s x)
-  fine-block q x = check 4 (leb 64 x) _ (omega arith) λ _. check 5 (ltb (g .blocks) x) _ (omega arith) λ _. choose (ltb x (g .blocks)) _ _ (λ _. nothing q x)
+  fine-block q x = check 4 (leb (limits .blocks) x) _ (omega arith) λ _. check 5 (ltb (g .blocks) x) _ (omega arith) λ _. choose (ltb x (g .blocks)) _ _ (λ _. nothing q x)
       λ e. by (eqb x 0) (ltb-no x (g .blocks) e)
     where
       by : (z : Bool) → g .blocks ≤ x → Fine (ok x (record { call = g .call; blocks = suc x; types = g .types; branch = g .branch; dests = g .dests; preds = g .preds; sealed = g .sealed }) (cond z (place-block 0 s) s))
@@ -179,7 +182,7 @@ module _ (E : Type 0) (g : Graph) (s : Form) (ds : List Done) (h : Whole E g s d
       by false lo = wider-fine q x (suc x) (g .types) (g .branch) s (h .inv) (grow-refl s) (omega arith) untyped
 
   fine-var : Quiet → (x y : ℕ) → Fine (declare-var g s x y)
-  fine-var q x y = check 4 (leb 64 x) _ (omega arith) λ _. check 5 (ltb (length (g .types)) x) _ (omega arith) λ _. check 6 (leb 6 y) _ (omega arith) λ _.
+  fine-var q x y = check 4 (leb (limits .variables) x) _ (omega arith) λ _. check 5 (ltb (length (g .types)) x) _ (omega arith) λ _. check 6 (leb type-count y) _ (omega arith) λ _.
       check 7 (ltb x (length (g .types)) && not (eqb y (type-of g x))) _ (omega arith) λ _.
       choose (ltb x (length (g .types))) _ _ (λ _. nothing q x) λ _. wider-fine q x (g .blocks) (g .types ++ y ∷ []) (g .branch) s (h .inv) (grow-refl s) (omega arith) typed
     where
@@ -191,7 +194,7 @@ module _ (E : Type 0) (g : Graph) (s : Form) (ds : List Done) (h : Whole E g s d
       wider-fine q b (g .blocks) (g .types) (put b true (g .branch)) (place-block b s) (relog-inv g E (s .zeros) (place-block b s .placed) (s .makes) s (h .kp) idle (h .inv)) (relog-grow g E (s .zeros) (place-block b s .placed) (s .makes) s) (omega arith) untyped
 
   fine-dest : Quiet → (p b : ℕ) → Fine (new-dest g s p b)
-  fine-dest q p b = check 6 (no-branch g s p || no-block g s b) _ (omega arith) λ _. check 11 (declared-anywhere g p) _ (omega arith) λ e. check 10 (leb 8 (length (g .dests p))) _ (omega arith) λ _.
+  fine-dest q p b = check 6 (no-branch g s p || no-block g s b) _ (omega arith) λ _. check 11 (declared-anywhere g p) _ (omega arith) λ e. check 10 (leb (limits .dests) (length (g .dests p))) _ (omega arith) λ _.
       silent E g s ds h (said (length (g .dests p))) (q (length (g .dests p))) _ s (h .kp) (aimed-inv g E s (h .kp) idle (h .inv) p b (nowhere e))
       (record { range = h .sound .range; nodup = h .sound .nodup; inside = h .sound .inside; names = λ c r i. names c r i (same? r p) }) (λ c r i. inl i) (grow-refl s)
     where
@@ -261,7 +264,7 @@ module _ (E : Type 0) (g : Graph) (s : Form) (ds : List Done) (h : Whole E g s d
   fine-seal : Quiet → (b : ℕ) → Fine (seal g s b)
   fine-seal q b = check 6 (no-block g s b) _ (omega arith) λ _. check 8 (g .sealed b) _ (omega arith) λ e.
       let r = sealed-one g E s (h .kp) (h .inv) b e (h .sound) in
-      silent E g s ds h _ (q _) (mark-sealed g b) (seal-form g s b) (r .kp) (r .inv) (record { range = h .sound .range; nodup = h .sound .nodup; inside = h .sound .inside; names = h .sound .names }) (λ c p i. inl i) (r .grow)
+      silent E g s ds h _ (q _) (mark-sealed g b) (seal-form g s b) (r .kp) (r .inv) (sound-sealed g b (h .sound)) (λ c p i. inl i) (r .grow)
 
   -- a call that is an act of one block
   spoken : (n : ℕ) (s′ : Form) (kp′ : ℕ → List ℕ) → Inv g E s′ kp′ idle → ((b v : ℕ) → s′ .own v b ≡ cur (λ w. none) (acts b ds ++ act b (said n)) v)
@@ -300,7 +303,7 @@ module _ (E : Type 0) (g : Graph) (s : Form) (ds : List Done) (h : Whole E g s d
   made-param e = let z : _≡_ {A = ℕ} 0 1 = cc in omega arith
 
   fine-make : (x y : ℕ) → ((n b : ℕ) → act b (said n) ≡ if-so (eqb x b) (makes n)) → Fine (make-value g s x y)
-  fine-make x y is = check 6 (no-block g s x || leb 6 y) _ (omega arith) λ _. check 9 (g .branch x) _ (omega arith) λ _. check 4 (leb 4096 (s .makes)) _ (omega arith) λ _.
+  fine-make x y is = check 6 (no-block g s x || leb type-count y) _ (omega arith) λ _. check 9 (g .branch x) _ (omega arith) λ _. check 4 (leb (limits .made) (s .makes)) _ (omega arith) λ _.
       spoken (s .next) s₂ (h .kp) (make-inv g E s₁ (h .kp) idle inv₁ made y x made-param) (λ b v. own b v (same? x b)) (λ b. tells b (same? x b))
     where
       s₁ : Form
@@ -354,7 +357,7 @@ module _ (E : Type 0) (g : Graph) (s : Form) (ds : List Done) (h : Whole E g s d
       let lb = leb-no (g .blocks) b (o .1) in
       go lv (reads g (h .sound) v lv E (depth g) b s (h .kp) idle lb (h .inv) (λ c z. inl refl) (shallow v s g))
     where
-      go : (lv : v < length (g .types)) → Read g (h .sound) v lv E s idle b (read (depth g) g v b s) → Fine (ok (read (depth g) g v b s .0) g (read (depth g) g v b s .1))
+      go : (lv : v < length (g .types)) → Read g v E s idle b (read (depth g) g v b s) → Fine (ok (read (depth g) g v b s .0) g (read (depth g) g v b s .1))
       go lv r = spoken (q .0) (q .1) (r .kp) (r .inv) (λ c w. own c w (same? b c)) (λ c. tells c (same? b c))
         where
           q : ℕ × Form
@@ -384,7 +387,7 @@ module _ (E : Type 0) (g : Graph) (s : Form) (ds : List Done) (h : Whole E g s d
   each : (bs : List ℕ) (g₀ : Graph) (s₀ : Form) (kp : ℕ → List ℕ) → Inv g₀ E s₀ kp idle → Sound g₀ → Each g₀ s₀ (seal-each bs g₀ s₀)
   each [] g₀ s₀ kp i G = record { kp = kp; inv = i; sound = G; grow = grow-refl s₀; preds = λ b p j. j }
   each (b ∷ bs) g₀ s₀ kp i G = by (g₀ .sealed b) refl (each bs g₀ s₀ kp i G) (λ e. let r = sealed-one g₀ E s₀ kp i b e G in
-      each bs (mark-sealed g₀ b) (seal-form g₀ s₀ b) (r .kp) (r .inv) (record { range = G .range; nodup = G .nodup; inside = G .inside; names = G .names }))
+      each bs (mark-sealed g₀ b) (seal-form g₀ s₀ b) (r .kp) (r .inv) (sound-sealed g₀ b G))
     where
       by : (z : Bool) → g₀ .sealed b ≡ z → Each g₀ s₀ (seal-each bs g₀ s₀) → (g₀ .sealed b ≡ false → Each (mark-sealed g₀ b) (seal-form g₀ s₀ b) (seal-each bs (mark-sealed g₀ b) (seal-form g₀ s₀ b)))
           → Each g₀ s₀ (elim z as (λ _. Graph × Form) [ true ↦ seal-each bs g₀ s₀ | false ↦ seal-each bs (mark-sealed g₀ b) (seal-form g₀ s₀ b) ])
