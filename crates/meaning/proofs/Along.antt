@@ -1,5 +1,5 @@
 -- Demand 3 along a path, from the facts. Assumes nothing.
-use Prim.Native.Nat.{ℕ, zero, suc, _<_}
+use Prim.Native.Nat.{ℕ, _<_}
 use mathlib.Core.Path.{_≡_, refl, sym, ap, _∙_, subst}
 use mathlib.Core.Logic.{_≢_, _⊎_, inl, inr}
 use mathlib.Core.Bool.{Bool, true, false, cond}
@@ -8,7 +8,6 @@ use mathlib.Core.List.{List, [], _∷_, _++_}
 use lib.Dec.{eqb}
 use lib.ListN.{length, getD}
 use native.Mathlib.Omega.{arith}
-use native.Mathlib.Nat.{le-of-suc-le-suc, not-suc-le-zero}
 use Rattle.definition.specs.Base.{put}
 use Rattle.definition.specs.Form.{Sort, made, param, nought, def}
 use Rattle.definition.specs.Read.{resolve, type-of}
@@ -17,11 +16,9 @@ use Rattle.meaning.specs.Path.{In, Act, makes, gives, uses, acts, Mem, d
 use Rattle.meaning.specs.Path.{Faithful}
 use Rattle.meaning.proofs.Maps.{some-inj, put-at, same?, put-other, eqb-same, eqb-diff, some-none}
 use Rattle.meaning.proofs.Facts.{arg-of, cur, Edge, same, kept, Told, Facts}
+use Rattle.meaning.proofs.Lists.{getD-in}
 
 module _ (W : Type 0) (null : ℕ → W) (t : State) where
-  R : ℕ → ℕ
-  R x = resolve (t .form) x
-
   -- in block b, with the blocks vis visited: f's values hold what their variables received, are set, and are not made later in b
   abbrev Set-by : ℕ → List ℕ → List ℕ → ℕ → Type 0
   Set-by b vis ms y = In (t .form .info y .home) vis × (t .form .info y .home ≡ b → t .form .info y .sort ≡ made → In y ms)
@@ -161,11 +158,6 @@ module _ (W : Type 0) (null : ℕ → W) (t : State) where
 
   param-made : {k : Sort} → k ≡ param → k ≡ made → ⊥
   param-made p q = let z : _≡_ {A = ℕ} 0 1 = cc in omega arith
-
-  getD-in : (l : List ℕ) (i : ℕ) → i < length l → In (getD l i 0) l
-  getD-in [] i h = absurd (not-suc-le-zero h)
-  getD-in (x ∷ l) zero h = inl refl
-  getD-in (x ∷ l) (suc i) h = inr (getD-in l i (le-of-suc-le-suc h))
 
   abbrev Same : ℕ → ℕ → ℕ → Type 0
   Same v b e = (p : ℕ) → In p (t .graph .preds b) → (o : ℕ) × (def (t .form) v p ≡ some o) × (resolve (t .form) o ≡ resolve (t .form) e)

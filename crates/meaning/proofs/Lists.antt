@@ -1,17 +1,18 @@
 -- Lists of numbers: membership, no duplicates, arguments by parameter. Assumes nothing.
 pub use Rattle.meaning.specs.Stored.{Nodup}
-use Prim.Native.Nat.{zero, ℕ, _+_, suc}
+use Prim.Native.Nat.{_<_, zero, ℕ, _+_, suc}
 use mathlib.Core.Path.{_≡_, refl, sym, ap, _∙_, subst}
-use mathlib.Core.Logic.{_≢_, _⊎_, inl, inr}
+use mathlib.Core.Logic.{⊎-map, _≢_, _⊎_, inl, inr}
 use mathlib.Core.Bool.{Bool, true, false, cond, _||_}
 use mathlib.Core.Option.{Option, none, some}
-use mathlib.Core.List.{List, [], _∷_, _++_, reverseAux, reverse}
+use mathlib.Core.List.{List, [], _∷_, _++_, reverseAux, reverse, map}
 use lib.Dec.{eqb}
-use lib.ListN.{length, drop, take}
+use lib.ListN.{length, drop, take, getD}
+use native.Mathlib.Nat.{not-suc-le-zero, le-of-suc-le-suc}
 use native.Mathlib.Omega.{arith}
-use Rattle.definition.specs.Base.{without, orElse, has}
+use Rattle.definition.specs.Base.{without, orElse, has, put}
 use Rattle.meaning.specs.Path.{In}
-use Rattle.meaning.proofs.Maps.{same?, eqb-same, eqb-diff, false-true, some-none}
+use Rattle.meaning.proofs.Maps.{same?, eqb-same, eqb-diff, false-true, some-none, put-at, put-other}
 use Rattle.meaning.proofs.Facts.{arg-of}
 
 pub in-left : {A : Type 0} (x : A) (l r : List A) → In x l → In x (l ++ r)
@@ -22,6 +23,20 @@ in-left x (y ∷ l) r (inr h) = inr (in-left x l r h)
 pub in-right : {A : Type 0} (x : A) (l r : List A) → In x r → In x (l ++ r)
 in-right x [] r h = h
 in-right x (y ∷ l) r h = inr (in-right x l r h)
+
+pub in-one : {A : Type 0} (a b : A) → In a (b ∷ []) → a ≡ b
+in-one a b (inl e) = e
+in-one a b (inr i) = absurd i
+
+-- a list in which nothing stands is empty
+pub nil-of : {A : Type 0} (l : List A) → ((x : A) → In x l → ⊥) → l ≡ []
+nil-of [] n = refl
+nil-of (x ∷ l) n = absurd (n x (inl refl))
+
+pub getD-in : (l : List ℕ) (i : ℕ) → i < length l → In (getD l i 0) l
+getD-in [] i h = absurd (not-suc-le-zero h)
+getD-in (x ∷ l) zero h = inl refl
+getD-in (x ∷ l) (suc i) h = inr (getD-in l i (le-of-suc-le-suc h))
 
 pub in-cases : {A : Type 0} (x : A) (l r : List A) → In x (l ++ r) → In x l ⊎ In x r
 in-cases x [] r h = inr h
@@ -55,6 +70,10 @@ not-has x l n = by (has x l) refl
     by : (b : Bool) → has x l ≡ b → b ≡ false
     by true e = absurd (n (in-has x l e))
     by false e = refl
+
+-- what stands in the list at j, where the list at k is l
+pub put-in : {A : Type 0} (a : A) (k : ℕ) (l : List A) (f : ℕ → List A) (j : ℕ) → In a (put k l f j) → ((j ≡ k) × In a l) ⊎ In a (f j)
+put-in a k l f j i = elim (same? j k) [ inl q ↦ inl (q, rw (put-at k l f j q) at i) | inr n ↦ inr (rw (put-other k l f j n) at i) ]
 
 pub nodup-snoc : (l : List ℕ) (x : ℕ) → Nodup l → (In x l → ⊥) → Nodup (l ++ x ∷ [])
 nodup-snoc [] x h n = ((λ i. i), tt)
@@ -115,11 +134,7 @@ nodup-without x (z ∷ l) h = by (eqb z x) (nodup-without x l (h .1))
     by true n = n
     by false n = (λ i. h .0 (without-in x l z i .0), n)
 
--- pairs of a variable and its parameter
-abbrev pub PIn : ℕ → ℕ → List (ℕ × ℕ) → Type 0
-PIn w x [] = ⊥
-PIn w x (q ∷ qs) = ((w ≡ q .0) × (x ≡ q .1)) ⊎ PIn w x qs
-
+-- the second of each pair
 abbrev pub snds : List (ℕ × ℕ) → List ℕ
 snds [] = []
 snds (q ∷ qs) = q .1 ∷ snds qs
@@ -128,29 +143,9 @@ pub snds-append : (l r : List (ℕ × ℕ)) → snds (l ++ r) ≡ snds l ++ snds
 snds-append [] r = refl
 snds-append (q ∷ l) r = ap {B = List ℕ} (λ k. q .1 ∷ k) (snds-append l r)
 
-pub pin-snds : (w x : ℕ) (l : List (ℕ × ℕ)) → PIn w x l → In x (snds l)
-pin-snds w x [] h = h
-pin-snds w x (q ∷ l) (inl e) = inl (e .1)
-pin-snds w x (q ∷ l) (inr h) = inr (pin-snds w x l h)
-
-pub pin-left : (w x : ℕ) (l r : List (ℕ × ℕ)) → PIn w x l → PIn w x (l ++ r)
-pin-left w x [] r h = absurd h
-pin-left w x (q ∷ l) r (inl e) = inl e
-pin-left w x (q ∷ l) r (inr h) = inr (pin-left w x l r h)
-
-pub pin-last : (w x : ℕ) (l : List (ℕ × ℕ)) → PIn w x (l ++ (w, x) ∷ [])
-pin-last w x [] = inl (refl, refl)
-pin-last w x (q ∷ l) = inr (pin-last w x l)
-
-pub pin-cases : (w x v y : ℕ) (l : List (ℕ × ℕ)) → PIn w x (l ++ (v, y) ∷ []) → PIn w x l ⊎ ((w ≡ v) × (x ≡ y))
-pin-cases w x v y [] (inl e) = inr e
-pin-cases w x v y [] (inr h) = absurd h
-pin-cases w x v y (q ∷ l) (inl e) = inl (inl e)
-pin-cases w x v y (q ∷ l) (inr h) = more (pin-cases w x v y l h)
-  where
-    more : PIn w x l ⊎ ((w ≡ v) × (x ≡ y)) → PIn w x (q ∷ l) ⊎ ((w ≡ v) × (x ≡ y))
-    more (inl i) = inl (inr i)
-    more (inr i) = inr i
+pub in-snds : (w x : ℕ) (l : List (ℕ × ℕ)) → In (w, x) l → In x (snds l)
+in-snds w x (q ∷ l) (inl e) = inl (ap (λ (p : ℕ × ℕ). p .1) e)
+in-snds w x (q ∷ l) (inr i) = inr (in-snds w x l i)
 
 -- arguments
 pub arg-more : (K L U Z : List ℕ) (e a : ℕ) → arg-of K U e ≡ some a → arg-of (K ++ L) (U ++ Z) e ≡ some a
@@ -214,3 +209,22 @@ drop-length (suc n) m (x ∷ l) e = drop-length n m l (omega (arith, e))
 pub in-cons : {P : ℕ → Type 0} (x : ℕ) (l : List ℕ) → P x → ((r : ℕ) → In r l → P r) → (r : ℕ) → In r (x ∷ l) → P r
 in-cons {P} x l p h r (inl e) = subst P (sym e) p
 in-cons {P} x l p h r (inr i) = h r i
+
+pub map-in : (f : ℕ → ℕ) (l : List ℕ) (y : ℕ) → In y (map f l) → (r : ℕ) × In r l × (y ≡ f r)
+map-in f [] y i = absurd i
+map-in f (z ∷ l) y (inl e) = (z, inl refl, e)
+map-in f (z ∷ l) y (inr i) = let k = map-in f l y i in (k .0, inr (k .1), k .2)
+
+pub in-map : (f : ℕ → ℕ) (l : List ℕ) (r : ℕ) → In r l → In (f r) (map f l)
+in-map f [] r i = absurd i
+in-map f (z ∷ l) r (inl e) = inl (ap f e)
+in-map f (z ∷ l) r (inr i) = inr (in-map f l r i)
+
+-- an entry is dropped or left
+pub left-of : (x : ℕ) (l : List ℕ) (y : ℕ) → In y l → (y ≡ x) ⊎ In y (without x l)
+left-of x (z ∷ l) y (inl e) = elim (same? z x) [ inl q ↦ inl (e ∙ q) | inr n ↦ inr (rw (eqb-diff z x n) (inl e)) ]
+left-of x (z ∷ l) y (inr i) = ⊎-map (λ e. e) (more (eqb z x)) (left-of x l y i)
+  where
+    more : (c : Bool) → In y (without x l) → In y (cond c (without x l) (z ∷ without x l))
+    more true j = j
+    more false j = inr j

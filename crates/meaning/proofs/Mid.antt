@@ -15,7 +15,7 @@ use Rattle.definition.specs.Read.{mark, new-param, wait, walk, settle, resolve}
 use Rattle.meaning.specs.Machine.{Task, look, finish, Conf, conf, open-param, find, visit, settle-top, turn, turns}
 use Rattle.meaning.specs.Path.{In}
 use Rattle.meaning.proofs.Maps.{same?, put-same, put-other, false-true, or-none, put-put, put-id}
-use Rattle.meaning.proofs.Lists.{PIn, in-cons, take-length, take-in, reverse-in, drop-length, drop-in}
+use Rattle.meaning.proofs.Lists.{in-cons, take-length, take-in, reverse-in, drop-length, drop-in}
 use Rattle.meaning.proofs.Inv.{Grow, pending, Inv, pending-par}
 use Rattle.meaning.proofs.Growing.{grown}
 use Rattle.meaning.proofs.Settle.{Settled, settled}
@@ -111,7 +111,7 @@ module _ (g : Graph) (G : Sound g) (B : Bounds g) (v : ℕ) (lv : v < length (g 
 
         set-ranged : Grow s₁ s₂ → Ranged g s₂
         set-ranged up = mark-ranged g v x (before c over) s₁
-            (more-ranged g s (h .ranged) v c ws lv lc (B .typed v lv) (h .inv .fresh (s .next) (omega arith)) (or-none (s .own v c) (s .entry v c) lack .1) quiet) (omega arith) up
+            (more-ranged g s (h .ranged) v c ws lv lc (B .typed v lv) (h .inv .aliased .fresh (s .next) (omega arith)) (or-none (s .own v c) (s .entry v c) lack .1) quiet) (omega arith) up
 
         set-load : (k′ : ℕ) → Has (def s₂ v c) → waiting ws + k′ ≡ suc (waiting (s .pending) + finishes ts k) → Load s₂ k′
         set-load k′ has e =
@@ -187,8 +187,8 @@ module _ (g : Graph) (G : Sound g) (B : Bounds g) (v : ℕ) (lv : v < length (g 
     abbrev t : Form
     t = settle g b x qs s .1
 
-    pub at-top : PIn v x (pending g s (put b ((v, x) ∷ op₂ b) op₂) b)
-    at-top = rw (h .sane .0, put-same b ((v, x) ∷ op₂ b) op₂) (inl (refl, refl))
+    pub at-top : In (v, x) (pending g s (put b ((v, x) ∷ op₂ b) op₂) b)
+    at-top = rw (h .sane .0, put-same b ((v, x) ∷ op₂ b) op₂) (inl refl)
 
     pub top-param : In x (s .params b)
     top-param = pending-par g ⊥ s (h .kp) (put b ((v, x) ∷ op₂ b) op₂) (h .inv) v b x at-top
@@ -218,7 +218,7 @@ module _ (g : Graph) (G : Sound g) (B : Bounds g) (v : ℕ) (lv : v < length (g 
             (length-reverse (take n₂ rs) ∙ take-length n₂ (h .fits .0) rs (h .fits .1)) (λ z. absurd z) (G .nodup b)
 
         rng : Ranged g (settle g b x (reverse (take (length (g .preds b)) rs)) s .1) × (settle g b x (reverse (take (length (g .preds b)) rs)) s .0 < settle g b x (reverse (take (length (g .preds b)) rs)) s .1 .next)
-        rng = settle-ranged g s (h .ranged) b x (B .shut b (h .sane .0)) (h .inv .pars b x top-param) (h .inv .fresh (s .next) (omega arith)) qs
+        rng = settle-ranged g s (h .ranged) b x (B .shut b (h .sane .0)) (h .inv .listed .pars b x top-param) (h .inv .aliased .fresh (s .next) (omega arith)) qs
             (λ r i. low r (take-in n₂ rs r (reverse-in (take n₂ rs) r i)))
 
         busy : (c : ℕ) → (c ≡ b) ⊎ (c ≢ b) → (put b ((v, x) ∷ op₂ b) op₂ c ≡ []) ⊎ ((u : ℕ) × (s .entry v c ≡ some u)) → (op₂ c ≡ []) ⊎ ((u : ℕ) × (t .entry v c ≡ some u))

@@ -16,7 +16,6 @@ use Rattle.definition.specs.Session.{State}
 use Rattle.meaning.specs.Machine.{Task, look, finish, Conf, conf, turn, turns}
 use Rattle.meaning.specs.Path.{In}
 use Rattle.meaning.proofs.Maps.{same?, put-same, put-other, put-at, or-none}
-use Rattle.meaning.proofs.Lists.{PIn}
 use Rattle.meaning.proofs.Inv.{pending, pending-par}
 use Rattle.meaning.proofs.Reading.{Sound}
 use Rattle.meaning.proofs.Sealing.{idle}
@@ -102,12 +101,12 @@ module _ (g : Graph) (G : Sound g) (B : Bounds g) (v : ℕ) (lv : v < length (g 
       let h = m .now .0 in
       let op = at-work v ts rest in
       let a = load-next s (suc (finishes ts k)) (h .load) in
-      let here : PIn v x (pending g s (put b ((v, x) ∷ op b) op) b) = rw (h .sane .0, put-same b ((v, x) ∷ op b) op) (inl (refl, refl)) in
+      let here : In (v, x) (pending g s (put b ((v, x) ∷ op b) op) b) = rw (h .sane .0, put-same b ((v, x) ∷ op b) op) (inl refl) in
       let i = pending-par g ⊥ s (h .kp) (put b ((v, x) ∷ op b) op) (h .inv) v b x here in
       record {
         block = B .shut b (h .sane .0);
         closed = h .sane .0;
-        value = h .inv .pars b x i .below;
+        value = h .inv .listed .pars b x i .below;
         param = i;
         taken = omega (arith, h .fits .1);
         next = omega (arith, a .0);
@@ -124,20 +123,20 @@ module _ (g : Graph) (G : Sound g) (B : Bounds g) (v : ℕ) (lv : v < length (g 
   abbrev work : List Task → ℕ → List (ℕ × ℕ)
   work us = at-work v us rest
 
-  all-named : (us : List Task) → Sane g us → ((x b : ℕ) → g .sealed b ≡ true → PIn v x (work us b) → x < s .next) → Named us
+  all-named : (us : List Task) → Sane g us → ((x b : ℕ) → g .sealed b ≡ true → In (v, x) (work us b) → x < s .next) → Named us
   all-named [] z f = tt
   all-named (look p ∷ us) z f = (z .0, all-named us (z .1) f)
   all-named (finish x b ∷ us) z f = (
-    f x b (z .0) (subst (λ (l : List (ℕ × ℕ)). PIn v x l) (sym (put-same b ((v, x) ∷ work us b) (work us))) (inl (refl, refl))),
+    f x b (z .0) (subst (λ (l : List (ℕ × ℕ)). In (v, x) l) (sym (put-same b ((v, x) ∷ work us b) (work us))) (inl refl)),
     B .shut b (z .0),
     all-named us (z .1) (λ y c q i. f y c q (more y c (same? c b) i)),
   )
     where
-      more : (y c : ℕ) → (c ≡ b) ⊎ (c ≢ b) → PIn v y (work us c) → PIn v y (put b ((v, x) ∷ work us b) (work us) c)
-      more y c (inl q) i = subst (λ (l : List (ℕ × ℕ)). PIn v y l) (sym (put-at b ((v, x) ∷ work us b) (work us) c q)) (inr (subst (λ (j : ℕ). PIn v y (work us j)) q i))
-      more y c (inr n) i = subst (λ (l : List (ℕ × ℕ)). PIn v y l) (sym (put-other b ((v, x) ∷ work us b) (work us) c n)) i
+      more : (y c : ℕ) → (c ≡ b) ⊎ (c ≢ b) → In (v, y) (work us c) → In (v, y) (put b ((v, x) ∷ work us b) (work us) c)
+      more y c (inl q) i = subst (λ (l : List (ℕ × ℕ)). In (v, y) l) (sym (put-at b ((v, x) ∷ work us b) (work us) c q)) (inr (subst (λ (j : ℕ). In (v, y) (work us j)) q i))
+      more y c (inr n) i = subst (λ (l : List (ℕ × ℕ)). In (v, y) l) (sym (put-other b ((v, x) ∷ work us b) (work us) c n)) i
 
   pub tasks-named : (ts : List Task) → Moment g v rest k (conf ts rs s) → Named ts
   tasks-named ts m =
       let h = m .now .0 in
-      all-named ts (h .sane) (λ x b z i. h .inv .pars b x (pending-par g ⊥ s (h .kp) (work ts) (h .inv) v b x (rw z i)) .below)
+      all-named ts (h .sane) (λ x b z i. h .inv .listed .pars b x (pending-par g ⊥ s (h .kp) (work ts) (h .inv) v b x (rw z i)) .below)

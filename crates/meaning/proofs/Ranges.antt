@@ -18,9 +18,8 @@ use Rattle.meaning.specs.Path.{In}
 use Rattle.meaning.specs.Stored.{Nodup}
 use Rattle.meaning.proofs.Growing.{grown}
 use Rattle.meaning.proofs.Maps.{same?, put-same, put-other, put-at, some-inj, put₂-at, put₂-other, here?, false-true}
-use Rattle.meaning.proofs.Lists.{nodup-snoc, in-cases, without-in, has-in}
-use Rattle.meaning.proofs.Inv.{Grow, Param, in-one, nought-param}
-use Rattle.meaning.proofs.Settle.{map-in}
+use Rattle.meaning.proofs.Lists.{nodup-snoc, in-cases, without-in, has-in, in-one, map-in}
+use Rattle.meaning.proofs.Inv.{Grow, Param, nought-param}
 use Rattle.meaning.proofs.Causing.{new-caused, alias-keeps, alias-caused}
 
 -- the graph
@@ -182,7 +181,7 @@ module _ (g : Graph) where
         old w b e q (inr n) = put₂-other v c (some (s .next)) (s .entry) w b n ∙ q
 
   -- settling the parameter x of b
-  module _ (s : Form) (h : Ranged g s) (b x : ℕ) (lb : b < g .blocks) (par : Param g s b x) (fresh : s .target (s .next) ≡ s .next) (rs : List ℕ) (low : (r : ℕ) → In r rs → r < s .next) where
+  module _ (s : Form) (h : Ranged g s) (b x : ℕ) (lb : b < g .blocks) (par : Param s b x) (fresh : s .target (s .next) ≡ s .next) (rs : List ℕ) (low : (r : ℕ) → In r rs → r < s .next) where
     abbrev Fine : Got → Type 0
     Fine r = Ranged g (r .1) × (r .0 < r .1 .next)
 

@@ -18,7 +18,8 @@ use Rattle.meaning.specs.Stored.{Nodup}
 use Rattle.meaning.proofs.Maps.{same?, put-same, put-other, eqb-same, eqb-diff, some-inj, put₂-at, put₂-other, here?, some-none, or-none, put-put}
 use Rattle.meaning.proofs.Maps.{put-id}
 use Rattle.meaning.proofs.Inv.{Grow, grow-refl, grow-trans, def-grow, pending, Inv, mark-inv, mark-grow}
-use Rattle.meaning.proofs.Growing.{Results, results-length, grown, grown-grow, grown-inv}
+use Rattle.meaning.proofs.Keeping.{Results, results-length}
+use Rattle.meaning.proofs.Growing.{grown, grown-grow, grown-inv}
 use Rattle.meaning.proofs.Settle.{Settled, settled}
 use Rattle.meaning.proofs.Lacking.{Somes, lacks, fewer, less}
 
@@ -87,7 +88,7 @@ module _ (g : Graph) (v : ℕ) where
       pub kp : ℕ → List ℕ
       pub inv : Inv g E (r .1) kp op
       pub grow : Grow s (r .1)
-      pub results : Results g v (r .1) ps (r .0)
+      pub results : Results v (r .1) ps (r .0)
 
     all-read : (n : ℕ) (rec : ℕ → Form → Got) → Reads n rec → (ps : List ℕ) (s : Form) (kp : ℕ → List ℕ) (op : ℕ → List (ℕ × ℕ))
         → ((p : ℕ) → In p ps → p < g .blocks) → Inv g E s kp op → Busy s op → lacks v s (g .blocks) < n → All s op ps (read-all rec ps s)
@@ -145,7 +146,7 @@ module _ (g : Graph) (G : Sound g) (v : ℕ) where
   filled E n rec R b x ws s kp op seal at h k l =
       let all = all-read g v E n rec R (g .preds b) s kp op (λ p i. G .range b p i) h k l in
       let q = read-all rec (g .preds b) s in
-      let done = settled g E (q .1) (all .kp) op (all .inv) v b x ws seal at (q .0) (results-length g v (q .1) (g .preds b) (q .0) (all .results)) (λ _. all .results) (G .nodup b) in
+      let done = settled g E (q .1) (all .kp) op (all .inv) v b x ws seal at (q .0) (results-length v (q .1) (g .preds b) (q .0) (all .results)) (λ _. all .results) (G .nodup b) in
       record { kp = done .kp; inv = done .inv; grow = grow-trans s (q .1) (settle g b x (q .0) (q .1) .1) (all .grow) (done .grow); alike = done .alike }
 
 module _ (g : Graph) (G : Sound g) (v : ℕ) (lv : v < length (g .types)) (E : Type 0) where

@@ -37,7 +37,7 @@ module _ (g : Graph) (G : Sound g) (B : Bounds g) where
 
   -- the parameter at work is known
   pub at-head : (b : ℕ) → g .sealed b ≡ true → (w : ℕ × ℕ) (ws : List (ℕ × ℕ)) (k : ℕ) (s : Form) → Rest g (put b (w ∷ ws) idle) k s → s .entry (w .0) b ≡ some (w .1)
-  at-head b seal w ws k s h = h .inv .pend (w .0) b (w .1) (rw (seal, put-same b (w ∷ ws) idle) (inl (refl, refl))) .0
+  at-head b seal w ws k s h = h .inv .pend (w .0) b (w .1) (rw (seal, put-same b (w ∷ ws) idle) (inl refl)) .0
 
   pub seal-start : (b : ℕ) → g .sealed b ≡ true → (w : ℕ × ℕ) (ws : List (ℕ × ℕ)) (s : Form) → Rest g (put b (w ∷ ws) idle) (suc (length ws)) s
       → Now g (w .0) (put b ws idle) (length ws) (conf (schedule g (w .1) b []) [] s)

@@ -36,16 +36,16 @@ module _ (g : Graph) (G : Sound g) (B : Bounds g) (s : Form) (kp : ℕ → List 
   -- a parameter stands for a variable
   of-variable : (b x : ℕ) → In x (s .params b) → (w : ℕ) × (w < length (g .types)) × (s .entry w b ≡ some x)
   of-variable b x i =
-      let r = h .pars b x i in
+      let r = h .listed .pars b x i in
       let k = R .caused .param-of x (r .below) (r .sort) in
       (k .0, k .1, sym (ap (s .entry (k .0)) (r .home)) ∙ k .2)
 
   pub params-room : (b : ℕ) → length (s .params b) ≤ length (g .types)
-  params-room b = pigeon (λ w. s .entry w b) (length (g .types)) (s .params b) (h .nodup b) (of-variable b)
+  params-room b = pigeon (λ w. s .entry w b) (length (g .types)) (s .params b) (h .listed .nodup b) (of-variable b)
 
   -- before a new parameter
   pub new-param-room : (v c : ℕ) → v < length (g .types) → s .entry v c ≡ none → suc (length (s .params c)) ≤ length (g .types)
-  new-param-room v c lv blank = pigeon (put v (some (s .next)) (λ w. s .entry w c)) (length (g .types)) (s .next ∷ s .params c) (λ i. omega (arith, h .pars c (s .next) i .below), h .nodup c) by
+  new-param-room v c lv blank = pigeon (put v (some (s .next)) (λ w. s .entry w c)) (length (g .types)) (s .next ∷ s .params c) (λ i. omega (arith, h .listed .pars c (s .next) i .below), h .listed .nodup c) by
     where
       by : (x : ℕ) → In x (s .next ∷ s .params c) → (w : ℕ) × (w < length (g .types)) × (put v (some (s .next)) (λ w. s .entry w c) w ≡ some x)
       by x (inl e) = (v, lv, put-same v (some (s .next)) (λ w. s .entry w c) ∙ ap {B = Option ℕ} some (sym e))
@@ -58,7 +58,7 @@ module _ (g : Graph) (G : Sound g) (B : Bounds g) (s : Form) (kp : ℕ → List 
   snds-length (q ∷ l) = ap suc (snds-length l)
 
   parts : (b : ℕ) → length (s .params b) ≡ length (kp b) + length (pending g s op b)
-  parts b = ap length (h .split b) ∙ length-append (kp b) (snds (pending g s op b)) ∙ ap (λ (n : ℕ). length (kp b) + n) (snds-length (pending g s op b))
+  parts b = ap length (h .listed .split b) ∙ length-append (kp b) (snds (pending g s op b)) ∙ ap (λ (n : ℕ). length (kp b) + n) (snds-length (pending g s op b))
 
   -- what waits is no more than the parameters
   pub waits-room : (b : ℕ) → length (s .pending b) ≤ length (s .params b)
@@ -78,22 +78,22 @@ module _ (g : Graph) (G : Sound g) (B : Bounds g) (s : Form) (kp : ℕ → List 
       nil e = subst (λ (l : List ℕ). length l ≤ length (g .types)) (sym e) (omega arith)
 
       by₃ : i < length (g .dests p) → g .sealed (getD (g .dests p) i 0) ≡ true → (z : Bool) → has p (g .preds (getD (g .dests p) i 0)) ≡ z → length (s .args p i) ≤ length (g .types)
-      by₃ lt b true c = omega (arith, h .fed p i lt b (in-has p (g .preds (getD (g .dests p) i 0)) c), kept-room (getD (g .dests p) i 0), params-room (getD (g .dests p) i 0))
-      by₃ lt b false c = nil (h .unfed p i (λ _ _ j. false-true c (has-in p (g .preds (getD (g .dests p) i 0)) j)))
+      by₃ lt b true c = omega (arith, h .passed .fed p i lt b (in-has p (g .preds (getD (g .dests p) i 0)) c), kept-room (getD (g .dests p) i 0), params-room (getD (g .dests p) i 0))
+      by₃ lt b false c = nil (h .passed .unfed p i (λ _ _ j. false-true c (has-in p (g .preds (getD (g .dests p) i 0)) j)))
 
       by₂ : i < length (g .dests p) → (y : Bool) → g .sealed (getD (g .dests p) i 0) ≡ y → length (s .args p i) ≤ length (g .types)
       by₂ lt true b = by₃ lt b (has p (g .preds (getD (g .dests p) i 0))) refl
-      by₂ lt false b = nil (h .unfed p i (λ _ e _. false-true b e))
+      by₂ lt false b = nil (h .passed .unfed p i (λ _ e _. false-true b e))
 
       by : (x : Bool) → ltb i (length (g .dests p)) ≡ x → length (s .args p i) ≤ length (g .types)
       by true a = by₂ (ltb-yes i (length (g .dests p)) a) (g .sealed (getD (g .dests p) i 0)) refl
-      by false a = let k = ltb-no i (length (g .dests p)) a in nil (h .unfed p i (λ l _ _. absurd (omega (arith, l, k))))
+      by false a = let k = ltb-no i (length (g .dests p)) a in nil (h .passed .unfed p i (λ l _ _. absurd (omega (arith, l, k))))
 
   -- before the arguments of a parameter that is kept
   pub feed-room : (b v x : ℕ) (ws : List (ℕ × ℕ)) → g .sealed b ≡ true → op b ≡ (v, x) ∷ ws → (p i : ℕ) → In p (g .preds b) → i < length (g .dests p) → getD (g .dests p) i 0 ≡ b → suc (length (s .args p i)) ≤ length (g .types)
   feed-room b v x ws seal at p i ip lt q =
       let k : pending g s op b ≡ (v, x) ∷ ws = rw seal at in
-      let f : length (s .args p i) ≡ length (kp b) = subst (λ (c : ℕ). length (s .args p i) ≡ length (kp c)) q (h .fed p i lt (ap (g .sealed) q ∙ seal) (subst (λ (c : ℕ). In p (g .preds c)) (sym q) ip)) in
+      let f : length (s .args p i) ≡ length (kp b) = subst (λ (c : ℕ). length (s .args p i) ≡ length (kp c)) q (h .passed .fed p i lt (ap (g .sealed) q ∙ seal) (subst (λ (c : ℕ). In p (g .preds c)) (sym q) ip)) in
       omega (arith, f, parts b, ap length k, params-room b)
 
   pub preds-room : (b : ℕ) → length (g .preds b) ≤ g .blocks
@@ -135,7 +135,7 @@ fed-always cs p i lt z ip = by (session cs) (sure cs) lt z ip
     by t h l y j =
         let d = getD (t .graph .dests p) i 0 in
         let none-left : pending (t .graph) (t .form) idle d ≡ [] = rw y in
-        h .whole .inv .fed p i l y j ∙ ap length (sym (h .whole .inv .split d ∙ ap (λ (u : List (ℕ × ℕ)). h .whole .kp d ++ snds u) none-left ∙ append-nil (h .whole .kp d)))
+        h .whole .inv .passed .fed p i l y j ∙ ap length (sym (h .whole .inv .listed .split d ∙ ap (λ (u : List (ℕ × ℕ)). h .whole .kp d ++ snds u) none-left ∙ append-nil (h .whole .kp d)))
 
 -- At a moment of a run for v, where `rest` waits for the next runs and has k parameters.
 pub record Moment (g : Graph) (v : ℕ) (rest : ℕ → List (ℕ × ℕ)) (k : ℕ) (c : Conf) : Type 0 where

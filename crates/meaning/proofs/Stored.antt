@@ -1,4 +1,5 @@
 -- Every number stored in a table is in range, after every list of calls and at every moment of a run; and how far a walk goes. Assumes nothing.
+pub use Rattle.meaning.proofs.Lists.{nil-of}
 use Prim.Native.Nat.{ℕ, zero, suc, _<_, _≤_}
 use mathlib.Core.Path.{_≡_, refl, sym, ap, _∙_, subst}
 use mathlib.Core.Logic.{inl, inr}
@@ -8,7 +9,6 @@ use mathlib.Core.List.{List, [], _∷_}
 use lib.Dec.{eqb, ltb}
 use lib.ListN.{length, getD}
 use native.Mathlib.Omega.{arith}
-use native.Mathlib.Nat.{not-suc-le-zero, le-of-suc-le-suc}
 use Rattle.definition.specs.Base.{has}
 use Rattle.definition.specs.Form.{Graph, Form, def}
 use Rattle.definition.specs.Read.{Walk, on-to, past, walk, single}
@@ -17,8 +17,8 @@ use Rattle.meaning.specs.Machine.{Conf}
 use Rattle.meaning.specs.Path.{In}
 use Rattle.meaning.specs.Stored.{Nodup, Stored}
 use Rattle.meaning.proofs.Maps.{false-true, ltb-no, ltb-yes}
-use Rattle.meaning.proofs.Lists.{PIn, has-in}
-use Rattle.meaning.proofs.Inv.{Inv, pending}
+use Rattle.meaning.proofs.Lists.{has-in, getD-in}
+use Rattle.meaning.proofs.Inv.{Inv}
 use Rattle.meaning.proofs.Reading.{Sound, Trail, walked, only-is}
 use Rattle.meaning.proofs.Sealing.{idle}
 use Rattle.meaning.proofs.Ranges.{Bounds, Ranged}
@@ -27,27 +27,12 @@ use Rattle.meaning.proofs.Mid.{at-work}
 use Rattle.meaning.proofs.Sure.{sure}
 use Rattle.meaning.proofs.Rooms.{Moment}
 
--- so a list in which nothing stands is empty
-pub nil-of : {A : Type 0} (l : List A) → ((x : A) → In x l → ⊥) → l ≡ []
-nil-of [] n = refl
-nil-of (x ∷ l) n = absurd (n x (inl refl))
-
-getD-in : (l : List ℕ) (i : ℕ) → i < length l → In (getD l i 0) l
-getD-in [] i h = absurd (not-suc-le-zero h)
-getD-in (x ∷ l) zero h = inl refl
-getD-in (x ∷ l) (suc i) h = inr (getD-in l i (le-of-suc-le-suc h))
-
-pin-of : (w : ℕ × ℕ) (l : List (ℕ × ℕ)) → In w l → PIn (w .0) (w .1) l
-pin-of w [] i = i
-pin-of w (q ∷ l) (inl e) = inl (ap (λ (p : ℕ × ℕ). p .0) e, ap (λ (p : ℕ × ℕ). p .1) e)
-pin-of w (q ∷ l) (inr i) = inr (pin-of w l i)
-
 pub stored-of : (g : Graph) → Sound g → Bounds g → (s : Form) (kp : ℕ → List ℕ) (op : ℕ → List (ℕ × ℕ)) → Inv g ⊥ s kp op → Ranged g s → Stored g s
 stored-of g G B s kp op h R = record {
   entry = λ w b e q. let k = h .known w b e q in (k .0, k .1, R .entries w b e q);
   own = R .owns;
-  params = λ b x i. let r = h .pars b x i in (subst (λ (j : ℕ). j < g .blocks) (r .home) (R .homes x (r .below)), r .below);
-  waits = λ b w i. waits b (w .0) (w .1) (pin-of w (s .pending b) i) (g .sealed b) refl;
+  params = λ b x i. let r = h .listed .pars b x i in (subst (λ (j : ℕ). j < g .blocks) (r .home) (R .homes x (r .below)), r .below);
+  waits = λ b w i. waits b w i (g .sealed b) refl;
   args = λ p i a j. args p i a j (ltb i (length (g .dests p))) refl;
   preds = λ b p i. (G .inside b p i, G .range b p i, G .names b p i);
   dests = λ p b i. (B .branches p (B .from p b i), B .aims p b i);
@@ -55,20 +40,19 @@ stored-of g G B s kp op h R = record {
   sealed = B .shut;
   settled = R .still;
   targets = R .closed;
-  unused = h .fresh;
+  unused = h .aliased .fresh;
   info = λ x l. (R .homes x l, R .types x l);
   zeros = R .zeros;
   placed = R .placed;
   once = R .once;
 }
   where
-    waits : (b w x : ℕ) → PIn w x (s .pending b) → (z : Bool) → g .sealed b ≡ z → (w < length (g .types)) × (b < g .blocks) × (x < s .next)
-    waits b w x i true e = absurd (subst (λ (l : List (ℕ × ℕ)). PIn w x l) (R .still b e) i)
-    waits b w x i false e =
-        let j : PIn w x (pending g s op b) = rw e i in
-        let q = h .pend w b x j .0 in
-        let k = h .known w b x q in
-        (k .0, k .1, R .entries w b x q)
+    waits : (b : ℕ) (w : ℕ × ℕ) → In w (s .pending b) → (z : Bool) → g .sealed b ≡ z → (w .0 < length (g .types)) × (b < g .blocks) × (w .1 < s .next)
+    waits b w i true e = absurd (rw (R .still b e) at i)
+    waits b w i false e =
+        let q = h .pend (w .0) b (w .1) (rw e i) .0 in
+        let k = h .known (w .0) b (w .1) q in
+        (k .0, k .1, R .entries (w .0) b (w .1) q)
 
     args : (p i a : ℕ) → In a (s .args p i) → (z : Bool) → ltb i (length (g .dests p)) ≡ z → (p < g .blocks) × (i < length (g .dests p)) × (a < s .next)
     args p i a j true e =
@@ -76,7 +60,7 @@ stored-of g G B s kp op h R = record {
         (B .branches p (B .from p (getD (g .dests p) i 0) (getD-in (g .dests p) i lt)), lt, R .args p i a j)
     args p i a j false e =
         let k = ltb-no i (length (g .dests p)) e in
-        absurd (subst (λ (l : List ℕ). In a l) (h .unfed p i (λ l _ _. omega (arith, l, k))) j)
+        absurd (subst (λ (l : List ℕ). In a l) (h .passed .unfed p i (λ l _ _. omega (arith, l, k))) j)
 
 pub stored : (cs : List Call) → Stored (session cs .graph) (session cs .form)
 stored cs =

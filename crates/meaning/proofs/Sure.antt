@@ -20,8 +20,7 @@ use Rattle.definition.specs.Session.{mark-sealed, seal-each, seal-all, define-a
 use Rattle.meaning.specs.Path.{In}
 use Rattle.meaning.proofs.Maps.{same?, put-other, put-at, eqb-eq, put₂-at, put₂-other, here?, false-true, some-none, ltb-no, leb-no, or-no, not-no}
 use Rattle.meaning.proofs.Maps.{and-both, some-inj}
-use Rattle.meaning.proofs.Lists.{in-cases}
-use Rattle.meaning.proofs.Inv.{in-one}
+use Rattle.meaning.proofs.Lists.{in-cases, in-one}
 use Rattle.meaning.proofs.Sealing.{idle}
 use Rattle.meaning.proofs.Load.{Load, load-same}
 use Rattle.meaning.proofs.Whole.{Whole, Fine, fine}
@@ -231,7 +230,7 @@ module _ (g : Graph) (s : Form) (ds : List Done) (w : Whole ⊥ g s ds) (h : Saf
         let o = or-no (no-block g s x) (leb type-count y) e₆ in
         let t = make made y x (place-block x (with-makes s (suc (s .makes)))) in
         let f = all-fewer s t (λ u d k. k) in
-        keep (s .next) g t refl (h .bounds) (make-ranged g s (suc (s .makes)) y x (h .ranged) (leb-no (g .blocks) x (o .0)) (leb-no type-count y (o .1)) (w .inv .fresh (s .next) (omega arith)))
+        keep (s .next) g t refl (h .bounds) (make-ranged g s (suc (s .makes)) y x (h .ranged) (leb-no (g .blocks) x (o .0)) (leb-no type-count y (o .1)) (w .inv .aliased .fresh (s .next) (omega arith)))
         (record { values = omega (arith, h .load .values, f); zeros = omega (arith, h .load .zeros, f); made = leb-no (limits .made) (s .makes) e₄ }) (omega arith)
 
     keep-define : (v x b : ℕ) → Keep (define g s v x b)
