@@ -89,9 +89,9 @@ ends t n h z = follow-chain t (h z .chain) n (le-trans (h z .short) (cnt-le t n)
 pub root-is : (t : ℕ → ℕ) (n z : ℕ) → Tree t n → t (follow n t z) ≡ follow n t z
 root-is t n z h = ap t (ends t n h z) ∙ chain-root (h z .chain) ∙ sym (ends t n h z)
 
-pub follow-suc : (t : ℕ → ℕ) (n z : ℕ) → Tree t n → follow (suc n) t z ≡ follow n t z
-unfolding tree-suc
-follow-suc t n z h = ends t (suc n) (tree-suc t n h) z ∙ sym (ends t n h z)
+-- more links change nothing
+pub follow-more : (t : ℕ → ℕ) (n m z : ℕ) → Tree t n → n ≤ m → follow m t z ≡ follow n t z
+follow-more t n m z h l = follow-chain t (h z .chain) m (le-trans (h z .short) (le-trans (cnt-le t n) l)) ∙ sym (ends t n h z)
 
 module _ (t : ℕ → ℕ) (n x y : ℕ) (h : Tree t n) (lt : x < n) (rx : t x ≡ x) (ry : t y ≡ y) (d : y ≢ x) where
   linked : (z : ℕ) → (h z .root ≡ x) ⊎ (h z .root ≢ x) → Ended (put x y t) n z

@@ -1,5 +1,5 @@
 -- A new parameter keeps the invariant: it is an entry that was not there, and waits or is at work until it is settled. Assumes nothing.
-use Prim.Native.Nat.{ℕ, _<_}
+use Prim.Native.Nat.{ℕ, _<_, suc}
 use mathlib.Core.Path.{_≡_, refl, sym, ap, _∙_}
 use mathlib.Core.Logic.{⊎-map, _≢_, _⊎_, inl, inr}
 use mathlib.Core.Bool.{cond}
@@ -11,7 +11,7 @@ use Rattle.definition.specs.Read.{new-param, resolve, type-of}
 use Rattle.definition.specs.Form.{with-pending, Graph, Form, Info, param}
 use Rattle.meaning.specs.Path.{In}
 use Rattle.meaning.proofs.Maps.{same?, put-same, put-other, put-at, some-inj, put₂-at, put₂-other, here?, some-none}
-use Rattle.meaning.proofs.Alias.{tree-suc, follow-suc}
+use Rattle.meaning.proofs.Alias.{tree-suc, follow-more}
 use Rattle.meaning.proofs.Lists.{in-cases, nodup-snoc, snds, snds-append, in-one, in-right, in-left}
 use Rattle.meaning.proofs.Inv.{Grow, pending, Param, Inv, edge-grow, nought-grow, pending-par, kept-root, param-grow}
 
@@ -34,7 +34,7 @@ module _ (g : Graph) (E : Type 0) (s : Form) (kp : ℕ → List ℕ) (op op′ :
   now = grown g s v c ws
 
   now-res : (z : ℕ) → resolve now z ≡ resolve s z
-  now-res z = follow-suc (s .target) (s .next) z (h .aliased .tree)
+  now-res z = follow-more (s .target) (s .next) (suc (s .next)) z (h .aliased .tree) (omega arith)
 
   pub grown-grow : Grow s (grown g s v c ws)
   grown-grow = record {

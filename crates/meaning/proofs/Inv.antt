@@ -1,6 +1,6 @@
 -- The invariant of reading, and that recording a definition, making a value and settling a parameter as an alias keep it: nothing that is recorded is ever
 -- replaced. The graph is fixed. Assumes nothing.
-use Prim.Native.Nat.{ℕ, _<_, _≤_}
+use Prim.Native.Nat.{ℕ, _<_, _≤_, suc}
 use mathlib.Core.Path.{_≡_, refl, sym, ap, _∙_, subst}
 use mathlib.Core.Logic.{_≢_, _⊎_, inl, inr, ⊎-map}
 use mathlib.Core.Bool.{Bool, true, false, cond}
@@ -16,7 +16,7 @@ use Rattle.meaning.specs.Path.{In}
 use Rattle.meaning.specs.Stored.{Nodup}
 use Rattle.meaning.proofs.Maps.{same?, put-same, put-other, put-at, some-inj, put₂-at, put₂-other, here?}
 use Rattle.meaning.proofs.Facts.{arg-of, Edge, same, kept}
-use Rattle.meaning.proofs.Alias.{Tree, tree-suc, tree-alias, follow-suc, follow-root, follow-keep, follow-move, follow-same}
+use Rattle.meaning.proofs.Alias.{Tree, tree-suc, tree-alias, follow-more, follow-root, follow-keep, follow-move, follow-same}
 use Rattle.meaning.proofs.Lists.{in-left, in-right, nodup-apart, without-in, without-mid, nodup-without, snds, or-mono, in-one, in-snds}
 
 pub nought-param : {k : Sort} → k ≡ nought → k ≡ param → ⊥
@@ -189,7 +189,7 @@ module _ (g : Graph) (E : Type 0) (s : Form) (kp : ℕ → List ℕ) (op : ℕ �
     s₂ = make k ty b s
 
     pub make-res : (z : ℕ) → resolve (make k ty b s) z ≡ resolve s z
-    make-res z = follow-suc (s .target) (s .next) z (h .aliased .tree)
+    make-res z = follow-more (s .target) (s .next) (suc (s .next)) z (h .aliased .tree) (omega arith)
 
     pub make-grow : Grow s (make k ty b s)
     make-grow = record {

@@ -28,6 +28,9 @@ pub mod Rooms
 pub mod Causes
 pub mod Chains
 pub mod Port
+pub mod Enough
 pub mod Stored
 pub mod Steady
 pub mod Turns
+pub mod Answers
+pub mod Theorems

@@ -12,6 +12,7 @@ use Rattle.definition.specs.Session.{Call, State, session, mark-sealed, seal-fo
 use Rattle.meaning.specs.Machine.{conf, schedule, visit, turns}
 use Rattle.meaning.specs.Rooms.{Rooms}
 use Rattle.meaning.specs.Stored.{Stored}
+use Rattle.meaning.specs.Path.{In}
 use Rattle.meaning.proofs.Maps.{put-same}
 use Rattle.meaning.proofs.Reading.{Sound}
 use Rattle.meaning.proofs.Sealing.{idle, sound-sealed}
@@ -91,3 +92,7 @@ run-count (c ∷ cs) t = omega (arith, run-count cs (step t c), after-count t c 
 
 pub calls-count : (cs : List Call) → (session cs .graph .call ≡ length cs) × (length (session cs .done) ≡ length cs)
 calls-count cs = let k = run-count cs empty in let d : length (session cs .done) ≡ length cs = omega (arith, k) in (sure cs .count ∙ d, d)
+
+-- a zero was logged by a call
+pub logged : (cs : List Call) (z : ℕ × ℕ) → In z (session cs .form .zeros) → z .0 < length cs
+logged cs z i = omega (arith, sure cs .logged z i, calls-count cs .0)

@@ -357,6 +357,7 @@ pub record Sure (t : State) : Type 0 where
   pub whole : Good ⊥ t
   pub safe : Safe (t .graph) (t .form)
   pub count : t .graph .call ≡ length (t .done)
+  pub logged : (z : ℕ × ℕ) → In z (t .form .zeros) → z .0 < t .graph .call
   pub answers : (i x : ℕ) → answered (t .done) i ≡ some x → x < t .form .next
 
 tick-safe : (g : Graph) (s : Form) → Safe g s → Safe (tick g) s
@@ -375,6 +376,7 @@ module _ (t : State) (c : Call) (h : Sure t) where
     whole = w;
     safe = tick-safe (t .graph) (t .form) (h .safe);
     count = omega (arith, h .count, length-append (t .done) (record { asked = c; code = k; number = 0 } ∷ []));
+    logged = λ z i. omega (arith, h .logged z i);
     answers = λ i x q. on i x (answered-last (t .done) (record { asked = c; code = k; number = 0 }) i x q);
   }
     where
@@ -385,6 +387,7 @@ module _ (t : State) (c : Call) (h : Sure t) where
     whole = w;
     safe = tick-safe g s (f .safe);
     count = omega (arith, h .count, f .calls, length-append (t .done) (record { asked = c; code = 0; number = n } ∷ []));
+    logged = λ z i. omega (arith, f .safe .ranged .zeros z i .0);
     answers = λ i x q. on i x (answered-last (t .done) (record { asked = c; code = 0; number = n }) i x q);
   }
     where
@@ -426,6 +429,7 @@ empty-sure = record {
         record { values = omega (arith, k, u); zeros = omega (arith, k, u); made = omega arith };
   };
   count = refl;
+  logged = λ z i. absurd i;
   answers = λ i x q. absurd (some-none q refl);
 }
 

@@ -1,6 +1,8 @@
 pub mod Path
 pub mod Machine
-pub mod Causes
-pub mod Turns
 pub mod Rooms
 pub mod Stored
+pub mod Enough
+pub mod Turns
+pub mod Causes
+pub mod Answers
