@@ -11,10 +11,11 @@ use lib.ListN.{length}
 use native.Mathlib.Omega.{arith}
 use Rattle.definition.specs.Form.{Graph, Form, Sort, made, param, nought}
 use Rattle.definition.specs.Session.{Call, session}
-use Rattle.meaning.specs.Causes.{Caused, is-sort, Causes-param, Causes-zero, values-of, Once}
+use Rattle.meaning.specs.Causes.{is-sort, Causes-param, Causes-zero, values-of, Once}
 use Rattle.meaning.specs.Machine.{Conf}
 use Rattle.meaning.specs.Path.{In}
 use Rattle.meaning.specs.Stored.{Nodup}
+use Rattle.meaning.proofs.Causing.{Caused}
 use Rattle.meaning.proofs.Maps.{eqb-eq, some-inj, false-true, and-both}
 use Rattle.meaning.proofs.Sums.{pigeon}
 use Rattle.meaning.proofs.Sure.{sure}

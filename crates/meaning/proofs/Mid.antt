@@ -14,7 +14,7 @@ use Rattle.definition.specs.Form.{Graph, Form, def}
 use Rattle.definition.specs.Read.{mark, new-param, wait, walk, settle, resolve}
 use Rattle.meaning.specs.Machine.{Task, look, finish, Conf, conf, open-param, find, visit, settle-top, turn, turns}
 use Rattle.meaning.specs.Path.{In}
-use Rattle.meaning.proofs.Maps.{same?, put-same, put-other, false-true, or-none, put-put, put-id}
+use Rattle.meaning.proofs.Maps.{same?, put-same, put-other, false-true, put-put, put-id}
 use Rattle.meaning.proofs.Lists.{in-cons, take-length, take-in, reverse-in, drop-length, drop-in}
 use Rattle.meaning.proofs.Inv.{Grow, pending, Inv, pending-par}
 use Rattle.meaning.proofs.Growing.{grown}
@@ -23,7 +23,7 @@ use Rattle.meaning.proofs.Reading.{Sound, Busy, busy-grow, Trail, walke
 use Rattle.meaning.proofs.Lacking.{Has, Somes, mark-somes, settle-somes, param-somes}
 use Rattle.meaning.proofs.Machine.{Goes, there, on}
 use Rattle.meaning.proofs.Load.{waiting, waiting-put, Added, Load, load-new, settle-adds, load-same, load-settle}
-use Rattle.meaning.proofs.Ranges.{Bounds, Ranged, def-below, mark-is, mark-ranged, more-ranged, settle-ranged}
+use Rattle.meaning.proofs.Ranges.{Bounds, Ranged, def-below, mark-is, mark-ranged, settle-ranged, grown-ranged}
 
 -- how many parameters the stack is to settle, and k others
 abbrev pub finishes : List Task → ℕ → ℕ
@@ -85,7 +85,7 @@ module _ (g : Graph) (G : Sound g) (B : Bounds g) (v : ℕ) (lv : v < length (g 
           record {
             kp = h .kp;
             inv = m .inv;
-            ranged = mark-ranged g v x over s (h .ranged) lx (m .grow);
+            ranged = mark-ranged g s (h .ranged) v x over lx (m .grow);
             load = load-same s t (mark-somes v x over s) (ap (λ (f : Form). f .makes) q) (finishes ts k) (ap (λ (f : Form). f .next) q) (ap (λ (f : Form). f .zeros) q) (ap (λ (f : Form). f .pending) q) (h .load);
             busy = busy-grow g v s t op (m .grow) (h .busy);
             sane = h .sane;
@@ -109,9 +109,8 @@ module _ (g : Graph) (G : Sound g) (B : Bounds g) (v : ℕ) (lv : v < length (g 
         set-somes : Somes s s₂
         set-somes w d o = mark-somes v x (before c over) s₁ w d (param-somes g v c s w d o)
 
-        set-ranged : Grow s₁ s₂ → Ranged g s₂
-        set-ranged up = mark-ranged g v x (before c over) s₁
-            (more-ranged g s (h .ranged) v c ws lv lc (B .typed v lv) (h .inv .aliased .fresh (s .next) (omega arith)) (or-none (s .own v c) (s .entry v c) lack .1) quiet) (omega arith) up
+        set-ranged : Grow s s₁ → Grow s₁ s₂ → Ranged g s₂
+        set-ranged up set = mark-ranged g s₁ (grown-ranged g s (h .ranged) v c ws lv lc (B .typed v lv) (h .inv .aliased .fresh (s .next) (omega arith)) up quiet) v x (before c over) (omega arith) set
 
         set-load : (k′ : ℕ) → Has (def s₂ v c) → waiting ws + k′ ≡ suc (waiting (s .pending) + finishes ts k) → Load s₂ k′
         set-load k′ has e =
@@ -127,7 +126,7 @@ module _ (g : Graph) (G : Sound g) (B : Bounds g) (v : ℕ) (lv : v < length (g 
         record {
           kp = h .kp;
           inv = m .inv;
-          ranged = set-ranged ws quiet (m .set);
+          ranged = set-ranged ws quiet (m .grew) (m .set);
           load = set-load ws quiet (finishes ts k) (x, m .there)
               (omega (arith, waiting-put (s .pending) c (s .pending c ++ (v, x) ∷ []) (le-trans lc (B .few)), length-append (s .pending c) ((v, x) ∷ [])));
           busy = m .busy;
@@ -151,7 +150,7 @@ module _ (g : Graph) (G : Sound g) (B : Bounds g) (v : ℕ) (lv : v < length (g 
             looks-on g v rest k (g .preds c) (finish x c ∷ ts) (length rs) (mark v x (before c over) (new-param g v c s)) (λ q i. G .range c q i) (record {
               kp = h .kp;
               inv = m .inv;
-              ranged = set-ranged (s .pending) still (m .set);
+              ranged = set-ranged (s .pending) still (m .grew) (m .set);
               load = set-load (s .pending) still (suc (finishes ts k)) (x, m .there) (omega arith);
               busy = m .busy;
               sane = (z, h .sane);

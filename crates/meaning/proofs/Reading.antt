@@ -115,6 +115,7 @@ module _ (g : Graph) (v : ℕ) where
     -- a new parameter for v on c, where ws waits, which the block b records too
     pub record Begun (s : Form) (kp : ℕ → List ℕ) (op : ℕ → List (ℕ × ℕ)) (b c : ℕ) (ws : ℕ → List (ℕ × ℕ)) (s′ : Form) : Type 0 where
       pub inv : Inv g E s′ kp op
+      pub grew : Grow s (grown g s v c ws)
       pub set : Grow (grown g s v c ws) s′
       pub grow : Grow s s′
       pub here : def s′ v b ≡ some (s .next)
@@ -209,9 +210,18 @@ module _ (g : Graph) (G : Sound g) (v : ℕ) (lv : v < length (g .types)) (E : T
         begun : ((s′ : Form) → Grow s s′ → s′ .entry v c ≡ some x → Busy g v s′ op′) → Begun g v E s kp op′ b c ws (mark v x (before c over) s₁)
         begun busy =
             let m = set-out in
-            let up = grow-trans s s₁ (mark v x (before c over) s₁) (grown-grow g E s kp op op′ h v c ws (unmarked c lack) lv low elsewhere there) (m .grow) in
-            let e = m .grow .entry v c x (put₂-at v c (some x) (s .entry) v c refl refl) in
-            record { inv = m .inv; set = m .grow; grow = up; here = m .here; there = def-grow s₁ (mark v x (before c over) s₁) (m .grow) v c x at-c; busy = busy (mark v x (before c over) s₁) up e }
+            let s₂ = mark v x (before c over) s₁ in
+            let grew = grown-grow g E s kp op op′ h v c ws (unmarked c lack) lv low elsewhere there in
+            let up = grow-trans s s₁ s₂ grew (m .grow) in
+            record {
+              inv = m .inv;
+              grew = grew;
+              set = m .grow;
+              grow = up;
+              here = m .here;
+              there = def-grow s₁ s₂ (m .grow) v c x at-c;
+              busy = busy s₂ up (m .grow .entry v c x (put₂-at v c (some x) (s .entry) v c refl refl));
+            }
 
       -- that waits
       pub begun-waiting : g .sealed c ≡ false → Begun g v E s kp op b c (put c (s .pending c ++ (v, x) ∷ []) (s .pending)) (mark v x (before c over) (wait v c x (new-param g v c s)))

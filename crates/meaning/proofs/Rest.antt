@@ -108,27 +108,20 @@ module _ (g : Graph) (G : Sound g) (B : Bounds g) (b : ℕ) (lb : b < g .blocks)
     kp = h .kp;
     inv = marked-inv g ⊥ s (h .kp) (h .inv) b unsealed;
     ranged = record {
-      closed = h .ranged .closed;
-      homes = h .ranged .homes;
-      types = h .ranged .types;
-      entries = h .ranged .entries;
-      owns = h .ranged .owns;
-      args = h .ranged .args;
-      still = λ c z. still c z (same? c b);
-      caused = record { param-of = h .ranged .caused .param-of; zero-of = h .ranged .caused .zero-of };
-      zeros = h .ranged .zeros;
-      once = h .ranged .once;
-      placed = h .ranged .placed;
+      valued = h .ranged .valued;
+      recorded = h .ranged .recorded;
+      logs = h .ranged .logs;
+      caused = h .ranged .caused;
+      still = λ c z. elim (same? c b) [
+        | inl q ↦ put-at b [] (s .pending) c q
+        | inr n ↦ put-other b [] (s .pending) c n ∙ h .ranged .still c (sym (put-other b true (g .sealed) c n) ∙ z)
+      ];
     };
     load =
         let w = waiting-put (s .pending) b [] (le-trans lb (B .few)) in
         let f = all-fewer s (set-pending b [] s) (λ w c o. o) in
         record { values = omega (arith, h .load .values, w, f); zeros = omega (arith, h .load .zeros, w, f); made = h .load .made };
   }
-    where
-      still : (c : ℕ) → put b true (g .sealed) c ≡ true → (c ≡ b) ⊎ (c ≢ b) → put b [] (s .pending) c ≡ []
-      still c z (inl q) = put-at b [] (s .pending) c q
-      still c z (inr n) = put-other b [] (s .pending) c n ∙ h .ranged .still c (sym (put-other b true (g .sealed) c n) ∙ z)
 
   pub seal-rest : (s : Form) → Rest g idle 0 s → Rest (mark-sealed g b) idle 0 (seal-form g s b) × (s .next ≤ seal-form g s b .next)
   seal-rest s h = (

@@ -100,7 +100,7 @@ module _ (g : Graph) (G : Sound g) (B : Bounds g) (s : Form) (kp : ℕ → List 
   preds-room b = pigeon some (g .blocks) (g .preds b) (G .nodup b) (λ p i. (p, G .range b p i, refl))
 
   pub placed-room : length (s .placed) ≤ g .blocks
-  placed-room = pigeon some (g .blocks) (s .placed) (R .once) (λ b i. (b, R .placed b i, refl))
+  placed-room = pigeon some (g .blocks) (s .placed) (R .logs .once) (λ b i. (b, R .logs .within b i, refl))
 
 pub rooms-of : (g : Graph) → Sound g → Bounds g → (s : Form) (kp : ℕ → List ℕ) (op : ℕ → List (ℕ × ℕ)) (k : ℕ) → Inv g ⊥ s kp op → Ranged g s → Load s k → Rooms g s
 rooms-of g G B s kp op k h R l =

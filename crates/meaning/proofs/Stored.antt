@@ -29,9 +29,9 @@ use Rattle.meaning.proofs.Rooms.{Moment}
 
 pub stored-of : (g : Graph) → Sound g → Bounds g → (s : Form) (kp : ℕ → List ℕ) (op : ℕ → List (ℕ × ℕ)) → Inv g ⊥ s kp op → Ranged g s → Stored g s
 stored-of g G B s kp op h R = record {
-  entry = λ w b e q. let k = h .known w b e q in (k .0, k .1, R .entries w b e q);
-  own = R .owns;
-  params = λ b x i. let r = h .listed .pars b x i in (subst (λ (j : ℕ). j < g .blocks) (r .home) (R .homes x (r .below)), r .below);
+  entry = λ w b e q. let k = h .known w b e q in (k .0, k .1, R .recorded .entries w b e q);
+  own = R .recorded .owns;
+  params = λ b x i. let r = h .listed .pars b x i in (subst (λ (j : ℕ). j < g .blocks) (r .home) (R .valued .homes x (r .below)), r .below);
   waits = λ b w i. waits b w i (g .sealed b) refl;
   args = λ p i a j. args p i a j (ltb i (length (g .dests p))) refl;
   preds = λ b p i. (G .inside b p i, G .range b p i, G .names b p i);
@@ -39,12 +39,12 @@ stored-of g G B s kp op h R = record {
   branches = B .branches;
   sealed = B .shut;
   settled = R .still;
-  targets = R .closed;
+  targets = R .valued .closed;
   unused = h .aliased .fresh;
-  info = λ x l. (R .homes x l, R .types x l);
-  zeros = R .zeros;
-  placed = R .placed;
-  once = R .once;
+  info = λ x l. (R .valued .homes x l, R .valued .types x l);
+  zeros = R .logs .noted;
+  placed = R .logs .within;
+  once = R .logs .once;
 }
   where
     waits : (b : ℕ) (w : ℕ × ℕ) → In w (s .pending b) → (z : Bool) → g .sealed b ≡ z → (w .0 < length (g .types)) × (b < g .blocks) × (w .1 < s .next)
@@ -52,12 +52,12 @@ stored-of g G B s kp op h R = record {
     waits b w i false e =
         let q = h .pend (w .0) b (w .1) (rw e i) .0 in
         let k = h .known (w .0) b (w .1) q in
-        (k .0, k .1, R .entries (w .0) b (w .1) q)
+        (k .0, k .1, R .recorded .entries (w .0) b (w .1) q)
 
     args : (p i a : ℕ) → In a (s .args p i) → (z : Bool) → ltb i (length (g .dests p)) ≡ z → (p < g .blocks) × (i < length (g .dests p)) × (a < s .next)
     args p i a j true e =
         let lt = ltb-yes i (length (g .dests p)) e in
-        (B .branches p (B .from p (getD (g .dests p) i 0) (getD-in (g .dests p) i lt)), lt, R .args p i a j)
+        (B .branches p (B .from p (getD (g .dests p) i 0) (getD-in (g .dests p) i lt)), lt, R .recorded .passed p i a j)
     args p i a j false e =
         let k = ltb-no i (length (g .dests p)) e in
         absurd (subst (λ (l : List ℕ). In a l) (h .passed .unfed p i (λ l _ _. omega (arith, l, k))) j)

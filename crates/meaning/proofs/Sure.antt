@@ -11,112 +11,23 @@ use native.Mathlib.Omega.{arith}
 use native.Mathlib.Nat.{le-trans, not-suc-le-zero}
 use Rattle.entity.specs.Types.{type-count}
 use Rattle.entity.specs.Limits.{limits}
-use Rattle.definition.specs.Base.{put, put₂, has, upFrom}
-use Rattle.definition.specs.Form.{Graph, Form, Info, Sort, made, param, nought, with-makes}
+use Rattle.definition.specs.Base.{put, has, upFrom}
+use Rattle.definition.specs.Form.{Graph, Form, made, with-makes, with-blocks}
 use Rattle.definition.specs.Read.{type-of, write, make, place-block}
 use Rattle.definition.specs.Session.{Call, Done, State, Reply, no, ok, refuse_when_else_, declared-anywhere, no-block, no-var, no-value, no-branch}
 use Rattle.definition.specs.Session.{declare-block, declare-var, make-value, define, use-var, new-branch, new-dest, add-pred, drop-pred, seal, seal-form}
 use Rattle.definition.specs.Session.{mark-sealed, seal-each, seal-all, define-answer, answered, reply, tick, after, step, run, empty, session}
 use Rattle.meaning.specs.Path.{In}
-use Rattle.meaning.proofs.Maps.{same?, put-other, put-at, eqb-eq, put₂-at, put₂-other, here?, false-true, some-none, ltb-no, leb-no, or-no, not-no}
-use Rattle.meaning.proofs.Maps.{and-both, some-inj}
+use Rattle.meaning.proofs.Maps.{same?, put-other, put-at, eqb-eq, false-true, some-none, ltb-no, leb-no, or-no, not-no, and-both, some-inj}
 use Rattle.meaning.proofs.Lists.{in-cases, in-one}
 use Rattle.meaning.proofs.Sealing.{idle}
 use Rattle.meaning.proofs.Load.{Load, load-same}
 use Rattle.meaning.proofs.Whole.{Whole, Fine, fine}
 use Rattle.meaning.proofs.Demand.{Good, empty-good, after-good}
-use Rattle.meaning.proofs.Causing.{new-caused}
-use Rattle.meaning.proofs.Ranges.{Bounds, Ranged, placed-once, placed-in}
+use Rattle.meaning.proofs.Ranges.{Bounds, Ranged, write-ranged, make-ranged, wider-ranged, place-ranged}
 use Rattle.meaning.proofs.Lacking.{all-fewer, all-le, write-somes}
 use Rattle.meaning.proofs.Rest.{Rest, read-rest, seal-rest, bounds-sealed, each-rest, up-below}
 use Rattle.meaning.proofs.Sums.{sum-most}
-
--- the graph grows
-pub wider-ranged : (g g′ : Graph) (s : Form) → Ranged g s → g .blocks ≤ g′ .blocks → length (g .types) ≤ length (g′ .types) → g .call ≤ g′ .call → ((b : ℕ) → g′ .sealed b ≡ g .sealed b) → Ranged g′ s
-wider-ranged g g′ s h bl ty ca se = record {
-  closed = h .closed;
-  homes = λ x l. le-trans (h .homes x l) bl;
-  types = h .types;
-  entries = h .entries;
-  owns = λ w b e q. let k = h .owns w b e q in (le-trans (k .0) ty, le-trans (k .1) bl, k .2);
-  args = h .args;
-  still = λ b z. h .still b (sym (se b) ∙ z);
-  caused = record { param-of = λ x l q. let k = h .caused .param-of x l q in (k .0, le-trans (k .1) ty, k .2); zero-of = h .caused .zero-of };
-  zeros = λ z i. let k = h .zeros z i in (le-trans (k .0) ca, le-trans (k .1) bl);
-  once = h .once;
-  placed = λ b i. le-trans (h .placed b i) bl;
-}
-
-pub place-ranged : (g : Graph) (s : Form) (b : ℕ) → Ranged g s → b < g .blocks → Ranged g (place-block b s)
-place-ranged g s b h lb = record {
-  closed = h .closed;
-  homes = h .homes;
-  types = h .types;
-  entries = h .entries;
-  owns = h .owns;
-  args = h .args;
-  still = h .still;
-  caused = record { param-of = h .caused .param-of; zero-of = h .caused .zero-of };
-  zeros = h .zeros;
-  once = placed-once b (s .placed) (h .once);
-  placed = placed-in b (g .blocks) (s .placed) lb (h .placed);
-}
-
-made-param : _≡_ {A = Sort} made param → ⊥
-made-param q = let z : _≡_ {A = ℕ} 0 1 = cc in omega arith
-
-made-nought : _≡_ {A = Sort} made nought → ⊥
-made-nought q = let z : _≡_ {A = ℕ} 0 1 = cc in omega arith
-
-pub make-ranged : (g : Graph) (s : Form) (m y b : ℕ) → Ranged g s → b < g .blocks → y < type-count → s .target (s .next) ≡ s .next → Ranged g (make made y b (place-block b (with-makes s m)))
-make-ranged g s m y b h lb ly fresh = record {
-  closed = λ x l. closed x l (same? x (s .next));
-  homes = λ x l. homes x l (same? x (s .next));
-  types = λ x l. types x l (same? x (s .next));
-  entries = λ w c e q. omega (arith, h .entries w c e q);
-  owns = λ w c e q. let k = h .owns w c e q in (k .0, k .1, omega (arith, k .2));
-  args = λ p i a k. omega (arith, h .args p i a k);
-  still = h .still;
-  caused = new-caused g s (h .caused) (make made y b (place-block b (with-makes s m))) (record { sort = made; type = y; home = b }) refl refl (λ w c e q. q) (λ x n. refl) (λ q. absurd (made-param q)) (λ q. absurd (made-nought q));
-  zeros = h .zeros;
-  once = placed-once b (s .placed) (h .once);
-  placed = placed-in b (g .blocks) (s .placed) lb (h .placed);
-}
-  where
-    closed : (x : ℕ) → x < suc (s .next) → (x ≡ s .next) ⊎ (x ≢ s .next) → s .target x < suc (s .next)
-    closed x l (inl e) = subst (λ (j : ℕ). j < suc (s .next)) (sym (ap (s .target) e ∙ fresh)) (omega arith)
-    closed x l (inr n) = let k = h .closed x (omega arith) in omega (arith, k)
-
-    homes : (x : ℕ) → x < suc (s .next) → (x ≡ s .next) ⊎ (x ≢ s .next) → put (s .next) (record { sort = made; type = y; home = b }) (s .info) x .home < g .blocks
-    homes x l (inl e) = subst (λ (j : Info). j .home < g .blocks) (sym (put-at (s .next) (record { sort = made; type = y; home = b }) (s .info) x e)) lb
-    homes x l (inr n) = subst (λ (j : Info). j .home < g .blocks) (sym (put-other (s .next) (record { sort = made; type = y; home = b }) (s .info) x n)) (h .homes x (omega arith))
-
-    types : (x : ℕ) → x < suc (s .next) → (x ≡ s .next) ⊎ (x ≢ s .next) → put (s .next) (record { sort = made; type = y; home = b }) (s .info) x .type < type-count
-    types x l (inl e) = subst (λ (j : Info). j .type < type-count) (sym (put-at (s .next) (record { sort = made; type = y; home = b }) (s .info) x e)) ly
-    types x l (inr n) = subst (λ (j : Info). j .type < type-count) (sym (put-other (s .next) (record { sort = made; type = y; home = b }) (s .info) x n)) (h .types x (omega arith))
-
-pub write-ranged : (g : Graph) (s : Form) (v b x : ℕ) → Ranged g s → v < length (g .types) → b < g .blocks → x < s .next → Ranged g (write v b x s)
-write-ranged g s v b x h lv lb lx = record {
-  closed = h .closed;
-  homes = h .homes;
-  types = h .types;
-  entries = h .entries;
-  owns = λ w c e q. owns w c e q (here? w v c b);
-  args = h .args;
-  still = h .still;
-  caused = record { param-of = h .caused .param-of; zero-of = h .caused .zero-of };
-  zeros = h .zeros;
-  once = h .once;
-  placed = h .placed;
-}
-  where
-    owns : (w c e : ℕ) → put₂ v b (some x) (s .own) w c ≡ some e → ((w ≡ v) × (c ≡ b)) ⊎ (w ≡ v → c ≡ b → ⊥) → (w < length (g .types)) × (c < g .blocks) × (e < s .next)
-    owns w c e q (inl k) = (
-      subst (λ (j : ℕ). j < length (g .types)) (sym (k .0)) lv,
-      subst (λ (j : ℕ). j < g .blocks) (sym (k .1)) lb,
-      subst (λ (j : ℕ). j < s .next) (some-inj (sym (put₂-at v b (some x) (s .own) w c (k .0) (k .1)) ∙ q)) lx,
-    )
-    owns w c e q (inr n) = h .owns w c e (sym (put₂-other v b (some x) (s .own) w c n) ∙ q)
 
 getD-last : (l : List ℕ) (y : ℕ) → getD (l ++ y ∷ []) (length l) 0 ≡ y
 getD-last [] y = refl
@@ -195,10 +106,10 @@ module _ (g : Graph) (s : Form) (ds : List Done) (w : Whole ⊥ g s ds) (h : Saf
             }
 
             r′ : Ranged (record { call = g .call; blocks = suc x; types = g .types; branch = g .branch; dests = g .dests; preds = g .preds; sealed = g .sealed }) s
-            r′ = wider-ranged g (record { call = g .call; blocks = suc x; types = g .types; branch = g .branch; dests = g .dests; preds = g .preds; sealed = g .sealed }) s (h .ranged) up (omega arith) (omega arith) (λ b. refl)
+            r′ = wider-ranged g s (h .ranged) (with-blocks g (suc x)) up (omega arith) (omega arith) (λ b. refl)
 
             on : (z : Bool) → Keep (ok x (record { call = g .call; blocks = suc x; types = g .types; branch = g .branch; dests = g .dests; preds = g .preds; sealed = g .sealed }) (cond z (place-block 0 s) s))
-            on true = keep x _ (place-block 0 s) refl b′ (place-ranged _ s 0 r′ (omega arith)) (load-same s (place-block 0 s) (λ u d o. o) refl 0 refl refl refl (h .load)) (omega arith)
+            on true = keep x _ (place-block 0 s) refl b′ (place-ranged _ s r′ 0 (omega arith)) (load-same s (place-block 0 s) (λ u d o. o) refl 0 refl refl refl (h .load)) (omega arith)
             on false = keep x _ s refl b′ r′ (h .load) (omega arith)
 
     keep-var : (x y : ℕ) → Keep (declare-var g s x y)
@@ -217,7 +128,7 @@ module _ (g : Graph) (s : Form) (ds : List Done) (w : Whole ⊥ g s ds) (h : Saf
               branches = h .bounds .branches;
               shut = h .bounds .shut;
             })
-            (wider-ranged g _ s (h .ranged) (omega arith) (omega (arith, length-append (g .types) (y ∷ []))) (omega arith) (λ b. refl)) (h .load) (omega arith)
+            (wider-ranged g s (h .ranged) _ (omega arith) (omega (arith, length-append (g .types) (y ∷ []))) (omega arith) (λ b. refl)) (h .load) (omega arith)
           where
             typed : (u : ℕ) → u < length (g .types ++ y ∷ []) → (u ≡ length (g .types)) ⊎ (u ≢ length (g .types)) → getD (g .types ++ y ∷ []) u 0 < type-count
             typed u l (inl e) = subst (λ (j : ℕ). j < type-count) (sym (ap (λ (j : ℕ). getD (g .types ++ y ∷ []) j 0) e ∙ getD-last (g .types) y)) ly
@@ -230,14 +141,14 @@ module _ (g : Graph) (s : Form) (ds : List Done) (w : Whole ⊥ g s ds) (h : Saf
         let o = or-no (no-block g s x) (leb type-count y) e₆ in
         let t = make made y x (place-block x (with-makes s (suc (s .makes)))) in
         let f = all-fewer s t (λ u d k. k) in
-        keep (s .next) g t refl (h .bounds) (make-ranged g s (suc (s .makes)) y x (h .ranged) (leb-no (g .blocks) x (o .0)) (leb-no type-count y (o .1)) (w .inv .aliased .fresh (s .next) (omega arith)))
+        keep (s .next) g t refl (h .bounds) (make-ranged g s (h .ranged) (suc (s .makes)) y x (leb-no (g .blocks) x (o .0)) (leb-no type-count y (o .1)) (w .inv .aliased .fresh (s .next) (omega arith)))
         (record { values = omega (arith, h .load .values, f); zeros = omega (arith, h .load .zeros, f); made = leb-no (limits .made) (s .makes) e₄ }) (omega arith)
 
     keep-define : (v x b : ℕ) → Keep (define g s v x b)
     keep-define v x b = check 6 (no-var g s v || no-value g s x || no-block g s b) _ λ e₆. check 7 (not (eqb (s .info x .type) (type-of g v))) _ λ _.
         let p = or-no (no-var g s v || no-value g s x) (no-block g s b) e₆ in
         let o = or-no (no-var g s v) (no-value g s x) (p .0) in
-        keep x g (write v b x s) refl (h .bounds) (write-ranged g s v b x (h .ranged) (leb-no (length (g .types)) v (o .0)) (leb-no (g .blocks) b (p .1)) (leb-no (s .next) x (o .1)))
+        keep x g (write v b x s) refl (h .bounds) (write-ranged g s (h .ranged) v b x (leb-no (length (g .types)) v (o .0)) (leb-no (g .blocks) b (p .1)) (leb-no (s .next) x (o .1)))
         (load-same s (write v b x s) (write-somes s v b x) refl 0 refl refl refl (h .load)) (omega arith)
 
     keep-define-at : (v b : ℕ) (o : Option ℕ) → Keep (define-answer g s v b o)
@@ -257,7 +168,7 @@ module _ (g : Graph) (s : Form) (ds : List Done) (w : Whole ⊥ g s ds) (h : Saf
           branches = λ p e. branches p e (leb-no (g .blocks) b e₆) (same? p b);
           shut = h .bounds .shut;
         })
-        (wider-ranged g _ (place-block b s) (place-ranged g s b (h .ranged) (leb-no (g .blocks) b e₆)) (omega arith) (omega arith) (omega arith) (λ d. refl)) (load-same s (place-block b s) (λ u d o. o) refl 0 refl refl refl (h .load)) (omega arith)
+        (wider-ranged g (place-block b s) (place-ranged g s (h .ranged) b (leb-no (g .blocks) b e₆)) _ (omega arith) (omega arith) (omega arith) (λ d. refl)) (load-same s (place-block b s) (λ u d o. o) refl 0 refl refl refl (h .load)) (omega arith)
       where
         from : (p d : ℕ) → In d (g .dests p) → (p ≡ b) ⊎ (p ≢ b) → put b true (g .branch) p ≡ true
         from p d i (inl q) = put-at b true (g .branch) p q
@@ -282,7 +193,7 @@ module _ (g : Graph) (s : Form) (ds : List Done) (w : Whole ⊥ g s ds) (h : Saf
           branches = h .bounds .branches;
           shut = h .bounds .shut;
         })
-        (wider-ranged g _ s (h .ranged) (omega arith) (omega arith) (omega arith) (λ d. refl)) (h .load) (omega arith)
+        (wider-ranged g s (h .ranged) _ (omega arith) (omega arith) (omega arith) (λ d. refl)) (h .load) (omega arith)
       where
         dests : (q : ℕ) → length (g .dests p) < limits .dests → (q ≡ p) ⊎ (q ≢ p) → length (put p (g .dests p ++ b ∷ []) (g .dests) q) ≤ limits .dests
         dests q l (inl e) = subst (λ (r : List ℕ). length r ≤ limits .dests) (sym (put-at p (g .dests p ++ b ∷ []) (g .dests) q e)) (omega (arith, l, length-append (g .dests p) (b ∷ [])))
@@ -304,7 +215,7 @@ module _ (g : Graph) (s : Form) (ds : List Done) (w : Whole ⊥ g s ds) (h : Saf
     keep-joined : (n b : ℕ) (ps : List ℕ) → Keep (ok n (record { call = g .call; blocks = g .blocks; types = g .types; branch = g .branch; dests = g .dests; preds = put b ps (g .preds); sealed = g .sealed }) s)
     keep-joined n b ps = keep n _ s refl
         (record { few = h .bounds .few; vars = h .bounds .vars; typed = h .bounds .typed; dests = h .bounds .dests; aims = h .bounds .aims; from = h .bounds .from; branches = h .bounds .branches; shut = h .bounds .shut })
-        (wider-ranged g _ s (h .ranged) (omega arith) (omega arith) (omega arith) (λ d. refl)) (h .load) (omega arith)
+        (wider-ranged g s (h .ranged) _ (omega arith) (omega arith) (omega arith) (λ d. refl)) (h .load) (omega arith)
 
     keep-pred : (b p : ℕ) → Keep (add-pred g s b p)
     keep-pred b p = check 6 (no-block g s b || no-branch g s p) _ λ _. check 8 (g .sealed b) _ λ _. check 13 (not (has b (g .dests p))) _ λ _. check 12 (has p (g .preds b)) _ λ _. keep-joined _ b _
@@ -363,7 +274,7 @@ pub record Sure (t : State) : Type 0 where
 tick-safe : (g : Graph) (s : Form) → Safe g s → Safe (tick g) s
 tick-safe g s h = record {
   bounds = record { few = h .bounds .few; vars = h .bounds .vars; typed = h .bounds .typed; dests = h .bounds .dests; aims = h .bounds .aims; from = h .bounds .from; branches = h .bounds .branches; shut = h .bounds .shut };
-  ranged = wider-ranged g (tick g) s (h .ranged) (omega arith) (omega arith) (omega arith) (λ b. refl);
+  ranged = wider-ranged g s (h .ranged) (tick g) (omega arith) (omega arith) (omega arith) (λ b. refl);
   load = h .load;
 }
 
@@ -387,7 +298,7 @@ module _ (t : State) (c : Call) (h : Sure t) where
     whole = w;
     safe = tick-safe g s (f .safe);
     count = omega (arith, h .count, f .calls, length-append (t .done) (record { asked = c; code = 0; number = n } ∷ []));
-    logged = λ z i. omega (arith, f .safe .ranged .zeros z i .0);
+    logged = λ z i. omega (arith, f .safe .ranged .logs .noted z i .0);
     answers = λ i x q. on i x (answered-last (t .done) (record { asked = c; code = 0; number = n }) i x q);
   }
     where
@@ -411,17 +322,11 @@ empty-sure = record {
   safe = record {
     bounds = record { few = omega arith; vars = omega arith; typed = λ w l. absurd (not-suc-le-zero l); dests = λ p. omega arith; aims = λ p b i. absurd i; from = λ p b i. absurd i; branches = λ p e. absurd (false-true refl e); shut = λ b e. absurd (false-true refl e) };
     ranged = record {
-      closed = λ x l. absurd (not-suc-le-zero l);
-      homes = λ x l. absurd (not-suc-le-zero l);
-      types = λ x l. absurd (not-suc-le-zero l);
-      entries = λ w b e q. absurd (some-none q refl);
-      owns = λ w b e q. absurd (some-none q refl);
-      args = λ p i a k. absurd k;
-      still = λ b z. refl;
+      valued = record { closed = λ x l. absurd (not-suc-le-zero l); homes = λ x l. absurd (not-suc-le-zero l); types = λ x l. absurd (not-suc-le-zero l) };
+      recorded = record { entries = λ w b e q. absurd (some-none q refl); owns = λ w b e q. absurd (some-none q refl); passed = λ p i a k. absurd k };
+      logs = record { noted = λ z i. absurd i; once = tt; within = λ b i. absurd i };
       caused = record { param-of = λ x l. absurd (not-suc-le-zero l); zero-of = λ z l. absurd (not-suc-le-zero l) };
-      zeros = λ z i. absurd i;
-      once = tt;
-      placed = λ b i. absurd i;
+      still = λ b z. refl;
     };
     load =
         let k = all-le (empty .form) in
