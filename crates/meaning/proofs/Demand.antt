@@ -30,7 +30,7 @@ pub whole-tick : (E : Type 0) (g : Graph) (s : Form) (ds : List Done) → Whole 
 whole-tick E g s ds h = record {
   kp = h .kp;
   inv = wider-inv g E s (h .kp) idle (h .inv) (suc (g .call)) (g .blocks) (g .types) (g .branch) (omega arith) (λ w l. (l, refl));
-  sound = record { range = h .sound .range; nodup = h .sound .nodup; inside = h .sound .inside; names = h .sound .names };
+  sound = h .sound;
   hist = h .hist;
   own = h .own;
   tells = h .tells;

@@ -7,7 +7,7 @@ use mathlib.Core.Bool.{Bool, true, false, cond, _&&_}
 use mathlib.Core.Option.{Option, none, some}
 use mathlib.Core.List.{List, [], _∷_, _++_, map}
 use lib.Dec.{eqb}
-use lib.ListN.{length}
+use lib.ListN.{length, getD}
 use native.Mathlib.Omega.{arith}
 use native.Mathlib.Nat.{le-trans}
 use Rattle.entity.specs.Limits.{limits}
@@ -23,16 +23,19 @@ use Rattle.meaning.proofs.Maps.{same?, put-same, put-other, put-at, som
 use Rattle.meaning.proofs.Lists.{nodup-snoc, in-cases, without-in, has-in, in-one, map-in}
 use Rattle.meaning.proofs.Inv.{Grow, Param, nought-param}
 
--- the graph
-pub record Bounds (g : Graph) : Type 0 where
-  pub few : g .blocks ≤ limits .blocks
-  pub vars : length (g .types) ≤ limits .variables
-  pub typed : (w : ℕ) → w < length (g .types) → type-of g w < type-count
-  pub dests : (p : ℕ) → length (g .dests p) ≤ limits .dests
-  pub aims : (p b : ℕ) → In b (g .dests p) → b < g .blocks
-  pub from : (p b : ℕ) → In b (g .dests p) → g .branch p ≡ true
-  pub branches : (p : ℕ) → g .branch p ≡ true → p < g .blocks
-  pub shut : (b : ℕ) → g .sealed b ≡ true → b < g .blocks
+-- the graph: its counts of blocks, types, branch marks, destinations, sealed marks
+pub record Bounded (n : ℕ) (ts : List ℕ) (br : ℕ → Bool) (ds : ℕ → List ℕ) (sl : ℕ → Bool) : Type 0 where
+  pub few : n ≤ limits .blocks
+  pub vars : length ts ≤ limits .variables
+  pub typed : (w : ℕ) → w < length ts → getD ts w 0 < type-count
+  pub dests : (p : ℕ) → length (ds p) ≤ limits .dests
+  pub aims : (p b : ℕ) → In b (ds p) → b < n
+  pub from : (p b : ℕ) → In b (ds p) → br p ≡ true
+  pub branches : (p : ℕ) → br p ≡ true → p < n
+  pub shut : (b : ℕ) → sl b ≡ true → b < n
+
+abbrev pub Bounds : Graph → Type 0
+Bounds g = Bounded (g .blocks) (g .types) (g .branch) (g .dests) (g .sealed)
 
 -- values
 pub record Valued (blocks : ℕ) (info : ℕ → Info) (target : ℕ → ℕ) (next : ℕ) : Type 0 where

@@ -27,12 +27,15 @@ use Rattle.meaning.proofs.Lacking.{Somes, lacks, fewer, less}
 pub grow-somes : (s s′ : Form) → Grow s s′ → Somes s s′
 grow-somes s s′ h w b o = (o .0, def-grow s s′ h w b (o .0) (o .1))
 
--- what is supposed of the graph
-pub record Sound (g : Graph) : Type 0 where
-  pub range : (b p : ℕ) → In p (g .preds b) → p < g .blocks
-  pub nodup : (b : ℕ) → Nodup (g .preds b)
-  pub inside : (b p : ℕ) → In p (g .preds b) → b < g .blocks
-  pub names : (b p : ℕ) → In p (g .preds b) → In b (g .dests p)
+-- what is supposed of the graph: its count of blocks, destinations, predecessors
+pub record Joined (n : ℕ) (ds ps : ℕ → List ℕ) : Type 0 where
+  pub range : (b p : ℕ) → In p (ps b) → p < n
+  pub nodup : (b : ℕ) → Nodup (ps b)
+  pub inside : (b p : ℕ) → In p (ps b) → b < n
+  pub names : (b p : ℕ) → In p (ps b) → In b (ds p)
+
+abbrev pub Sound : Graph → Type 0
+Sound g = Joined (g .blocks) (g .dests) (g .preds)
 
 pub only-is : (c : Bool) (ps : List ℕ) (p : ℕ) → only c ps ≡ some p → (c ≡ true) × (ps ≡ p ∷ [])
 only-is true [] p e = absurd (some-none e refl)

@@ -17,7 +17,7 @@ use Rattle.meaning.specs.Path.{In}
 use Rattle.meaning.proofs.Maps.{same?, put-same, put-other, put-at, put-id}
 use Rattle.meaning.proofs.Inv.{Inv}
 use Rattle.meaning.proofs.Reading.{Sound, reads}
-use Rattle.meaning.proofs.Sealing.{idle, shallow, sealed-one, marked-inv, sound-sealed}
+use Rattle.meaning.proofs.Sealing.{idle, shallow, sealed-one, marked-inv}
 use Rattle.meaning.proofs.Machine.{does, fills}
 use Rattle.meaning.proofs.Load.{waiting-put, Load}
 use Rattle.meaning.proofs.Ranges.{Bounds, Ranged}
@@ -96,11 +96,16 @@ module _ (g : Graph) (G : Sound g) (B : Bounds g) where
 -- a seal
 module _ (g : Graph) (G : Sound g) (B : Bounds g) (b : ℕ) (lb : b < g .blocks) (unsealed : g .sealed b ≡ false) where
   pub bounds-sealed : Bounds (mark-sealed g b)
-  bounds-sealed = record { few = B .few; vars = B .vars; typed = B .typed; dests = B .dests; aims = B .aims; from = B .from; branches = B .branches; shut = λ c z. shut c z (same? c b) }
-    where
-      shut : (c : ℕ) → put b true (g .sealed) c ≡ true → (c ≡ b) ⊎ (c ≢ b) → c < g .blocks
-      shut c z (inl q) = subst (λ (j : ℕ). j < g .blocks) (sym q) lb
-      shut c z (inr n) = B .shut c (sym (put-other b true (g .sealed) c n) ∙ z)
+  bounds-sealed = record {
+    few = B .few;
+    vars = B .vars;
+    typed = B .typed;
+    dests = B .dests;
+    aims = B .aims;
+    from = B .from;
+    branches = B .branches;
+    shut = λ c z. elim (same? c b) [ inl q ↦ rw q lb | inr n ↦ B .shut c (sym (put-other b true (g .sealed) c n) ∙ z) ];
+  }
 
   -- the mark alone: what waited is at work
   pub mark-rest : (s : Form) → Rest g idle 0 s → Rest (mark-sealed g b) (put b (s .pending b) idle) (length (s .pending b)) (set-pending b [] s)
@@ -125,7 +130,7 @@ module _ (g : Graph) (G : Sound g) (B : Bounds g) (b : ℕ) (lb : b < g .blocks)
 
   pub seal-rest : (s : Form) → Rest g idle 0 s → Rest (mark-sealed g b) idle 0 (seal-form g s b) × (s .next ≤ seal-form g s b .next)
   seal-rest s h = (
-    pending-rest (mark-sealed g b) (sound-sealed g b G) bounds-sealed b (put-same b true (g .sealed)) (s .pending b) (set-pending b [] s) (mark-rest s h),
+    pending-rest (mark-sealed g b) G bounds-sealed b (put-same b true (g .sealed)) (s .pending b) (set-pending b [] s) (mark-rest s h),
     sealed-one g ⊥ s (h .kp) (h .inv) b unsealed G .grow .more,
   )
 
@@ -140,7 +145,7 @@ pub record All-rest (n k : ℕ) (r : Graph × Form) : Type 0 where
 pub each-rest : (bs : List ℕ) (g : Graph) (s : Form) → ((b : ℕ) → In b bs → b < g .blocks) → Sound g → Bounds g → Rest g idle 0 s → All-rest (s .next) (g .call) (seal-each bs g s)
 each-rest [] g s lt G B h = record { calls = refl; sound = G; bounds = B; rest = h; more = omega arith }
 each-rest (b ∷ bs) g s lt G B h = by (g .sealed b) refl (each-rest bs g s (λ c i. lt c (inr i)) G B h)
-    (λ e. each-rest bs (mark-sealed g b) (seal-form g s b) (λ c i. lt c (inr i)) (sound-sealed g b G) (bounds-sealed g G B b (lt b (inl refl)) e) (seal-rest g G B b (lt b (inl refl)) e s h .0))
+    (λ e. each-rest bs (mark-sealed g b) (seal-form g s b) (λ c i. lt c (inr i)) G (bounds-sealed g G B b (lt b (inl refl)) e) (seal-rest g G B b (lt b (inl refl)) e s h .0))
   where
     by : (z : Bool) → g .sealed b ≡ z → All-rest (s .next) (g .call) (seal-each bs g s) → (g .sealed b ≡ false → All-rest (seal-form g s b .next) (g .call) (seal-each bs (mark-sealed g b) (seal-form g s b)))
         → All-rest (s .next) (g .call) (elim z as (λ _. Graph × Form) [ true ↦ seal-each bs g s | false ↦ seal-each bs (mark-sealed g b) (seal-form g s b) ])

@@ -23,9 +23,6 @@ idle b = []
 pub shallow : (v : ℕ) (s : Form) (g : Graph) → lacks v s (g .blocks) < depth g
 shallow v s g = omega (arith, lacks-le v s (g .blocks))
 
-pub sound-sealed : (g : Graph) (b : ℕ) → Sound g → Sound (mark-sealed g b)
-sound-sealed g b G = record { range = G .range; nodup = G .nodup; inside = G .inside; names = G .names }
-
 pub record Sealed (g : Graph) (E : Type 0) (s s′ : Form) : Type 0 where
   pub kp : ℕ → List ℕ
   pub inv : Inv g E s′ kp idle
@@ -103,5 +100,5 @@ module _ (g : Graph) (E : Type 0) (s : Form) (kp : ℕ → List ℕ) (h : Inv g 
 
   pub sealed-one : Sound g → Sealed (mark-sealed g b) E s (seal-form g s b)
   sealed-one G =
-      let r = all-settled g′ E (sound-sealed g b G) b (put-same b true (g .sealed)) (s .pending b) s′ kp marked-inv in
+      let r = all-settled g′ E G b (put-same b true (g .sealed)) (s .pending b) s′ kp marked-inv in
       record { kp = r .kp; inv = r .inv; grow = r .grow }

@@ -15,7 +15,7 @@ use Rattle.meaning.specs.Stored.{Stored}
 use Rattle.meaning.specs.Path.{In}
 use Rattle.meaning.proofs.Maps.{put-same}
 use Rattle.meaning.proofs.Reading.{Sound}
-use Rattle.meaning.proofs.Sealing.{idle, sound-sealed}
+use Rattle.meaning.proofs.Sealing.{idle}
 use Rattle.meaning.proofs.Ranges.{Bounds}
 use Rattle.meaning.proofs.Rest.{read-rest, seal-rest, mark-rest, some-rest, bounds-sealed, at-head, Rest}
 use Rattle.meaning.proofs.Sure.{sure, Sure}
@@ -57,7 +57,7 @@ module _ (g : Graph) (s : Form) (h : Steady g s) where
     g′ = mark-sealed g b
 
     pub sound-then : Sound (mark-sealed g b)
-    sound-then = sound-sealed g b (h .sound)
+    sound-then = h .sound
 
     pub bounds-then : Bounds (mark-sealed g b)
     bounds-then = bounds-sealed g (h .sound) (h .bounds) b lb unsealed

@@ -1,7 +1,7 @@
 -- What holds after every list of calls, with no supposition. Assumes nothing.
 use Prim.Native.Nat.{ℕ, zero, suc, _<_, _≤_}
-use mathlib.Core.Path.{_≡_, refl, sym, ap, _∙_, subst}
-use mathlib.Core.Logic.{_≢_, _⊎_, inl, inr}
+use mathlib.Core.Path.{_≡_, refl, sym, _∙_}
+use mathlib.Core.Logic.{_⊎_, inl, inr}
 use mathlib.Core.Bool.{Bool, true, false, cond, not, _&&_, _||_}
 use mathlib.Core.Option.{Option, none, some}
 use mathlib.Core.List.{List, [], _∷_, _++_}
@@ -12,14 +12,14 @@ use native.Mathlib.Nat.{le-trans, not-suc-le-zero}
 use Rattle.entity.specs.Types.{type-count}
 use Rattle.entity.specs.Limits.{limits}
 use Rattle.definition.specs.Base.{put, has, upFrom}
-use Rattle.definition.specs.Form.{Graph, Form, made, with-makes, with-blocks}
+use Rattle.definition.specs.Form.{Graph, Form, made, with-makes, with-blocks, with-preds, with-dests}
 use Rattle.definition.specs.Read.{type-of, write, make, place-block}
 use Rattle.definition.specs.Session.{Call, Done, State, Reply, no, ok, refuse_when_else_, declared-anywhere, no-block, no-var, no-value, no-branch}
 use Rattle.definition.specs.Session.{declare-block, declare-var, make-value, define, use-var, new-branch, new-dest, add-pred, drop-pred, seal, seal-form}
 use Rattle.definition.specs.Session.{mark-sealed, seal-each, seal-all, define-answer, answered, reply, tick, after, step, run, empty, session}
 use Rattle.meaning.specs.Path.{In}
 use Rattle.meaning.proofs.Maps.{same?, put-other, put-at, eqb-eq, false-true, some-none, ltb-no, leb-no, or-no, not-no, and-both, some-inj}
-use Rattle.meaning.proofs.Lists.{in-cases, in-one}
+use Rattle.meaning.proofs.Lists.{in-cases, in-one, put-in}
 use Rattle.meaning.proofs.Sealing.{idle}
 use Rattle.meaning.proofs.Load.{Load, load-same}
 use Rattle.meaning.proofs.Whole.{Whole, Fine, fine}
@@ -73,6 +73,9 @@ module _ (g : Graph) (s : Form) (ds : List Done) (w : Whole ⊥ g s ds) (h : Saf
   choose true r q f u = f refl
   choose false r q f u = u refl
 
+  load-placed : (b : ℕ) → Load (place-block b s) 0
+  load-placed b = load-same s (place-block b s) (λ u d o. o) refl 0 refl refl refl (h .load)
+
   module _ (other : c .kind ≡ 6 → ⊥) where
     nothing : (n : ℕ) → Keep (ok n g s)
     nothing n = record { safe = h; more = omega arith; answer = λ e. absurd (other e); calls = refl }
@@ -82,20 +85,14 @@ module _ (g : Graph) (s : Form) (ds : List Done) (w : Whole ⊥ g s ds) (h : Saf
 
     keep-block : (x : ℕ) → Keep (declare-block g s x)
     keep-block x = check 4 (leb (limits .blocks) x) _ λ e₄. check 5 (ltb (g .blocks) x) _ λ e₅. choose (ltb x (g .blocks)) _ _ (λ _. nothing x)
-        λ e. by (eqb x 0) (leb-no (limits .blocks) x e₄) (ltb-no (g .blocks) x e₅) (ltb-no x (g .blocks) e)
+        λ e. by (eqb x 0) (leb-no (limits .blocks) x e₄) (omega (arith, ltb-no x (g .blocks) e))
       where
-        by : (z : Bool) → x < limits .blocks → x ≤ g .blocks → g .blocks ≤ x → Keep (ok x (record { call = g .call; blocks = suc x; types = g .types; branch = g .branch; dests = g .dests; preds = g .preds; sealed = g .sealed }) (cond z (place-block 0 s) s))
-        by z lo hi eq = on z
+        by : (z : Bool) → x < limits .blocks → g .blocks ≤ suc x → Keep (ok x (with-blocks g (suc x)) (cond z (place-block 0 s) s))
+        by z lo up = on z
           where
-            g′ : Graph
-            g′ = record { call = g .call; blocks = suc x; types = g .types; branch = g .branch; dests = g .dests; preds = g .preds; sealed = g .sealed }
-
-            up : g .blocks ≤ suc x
-            up = omega (arith, hi, eq)
-
-            b′ : Bounds (record { call = g .call; blocks = suc x; types = g .types; branch = g .branch; dests = g .dests; preds = g .preds; sealed = g .sealed })
+            b′ : Bounds (with-blocks g (suc x))
             b′ = record {
-              few = omega (arith, lo);
+              few = lo;
               vars = h .bounds .vars;
               typed = h .bounds .typed;
               dests = h .bounds .dests;
@@ -105,36 +102,33 @@ module _ (g : Graph) (s : Form) (ds : List Done) (w : Whole ⊥ g s ds) (h : Saf
               shut = λ b e. le-trans (h .bounds .shut b e) up;
             }
 
-            r′ : Ranged (record { call = g .call; blocks = suc x; types = g .types; branch = g .branch; dests = g .dests; preds = g .preds; sealed = g .sealed }) s
+            r′ : Ranged (with-blocks g (suc x)) s
             r′ = wider-ranged g s (h .ranged) (with-blocks g (suc x)) up (omega arith) (omega arith) (λ b. refl)
 
-            on : (z : Bool) → Keep (ok x (record { call = g .call; blocks = suc x; types = g .types; branch = g .branch; dests = g .dests; preds = g .preds; sealed = g .sealed }) (cond z (place-block 0 s) s))
-            on true = keep x _ (place-block 0 s) refl b′ (place-ranged _ s r′ 0 (omega arith)) (load-same s (place-block 0 s) (λ u d o. o) refl 0 refl refl refl (h .load)) (omega arith)
+            on : (z : Bool) → Keep (ok x (with-blocks g (suc x)) (cond z (place-block 0 s) s))
+            on true = keep x _ (place-block 0 s) refl b′ (place-ranged (with-blocks g (suc x)) s r′ 0 (omega arith)) (load-placed 0) (omega arith)
             on false = keep x _ s refl b′ r′ (h .load) (omega arith)
 
     keep-var : (x y : ℕ) → Keep (declare-var g s x y)
-    keep-var x y = check 4 (leb (limits .variables) x) _ λ e₄. check 5 (ltb (length (g .types)) x) _ λ e₅. check 6 (leb type-count y) _ λ e₆. check 7 (ltb x (length (g .types)) && not (eqb y (type-of g x))) _ λ _.
-        choose (ltb x (length (g .types))) _ _ (λ _. nothing x) λ e. new (leb-no (limits .variables) x e₄) (leb-no type-count y e₆) (ltb-no x (length (g .types)) e)
-      where
-        new : x < limits .variables → y < type-count → length (g .types) ≤ x → Keep (ok x (record { call = g .call; blocks = g .blocks; types = g .types ++ y ∷ []; branch = g .branch; dests = g .dests; preds = g .preds; sealed = g .sealed }) s)
-        new lo ly hi = keep x _ s refl
-            (record {
-              few = h .bounds .few;
-              vars = omega (arith, lo, hi, length-append (g .types) (y ∷ []));
-              typed = λ u l. typed u l (same? u (length (g .types)));
-              dests = h .bounds .dests;
-              aims = h .bounds .aims;
-              from = h .bounds .from;
-              branches = h .bounds .branches;
-              shut = h .bounds .shut;
-            })
-            (wider-ranged g s (h .ranged) _ (omega arith) (omega (arith, length-append (g .types) (y ∷ []))) (omega arith) (λ b. refl)) (h .load) (omega arith)
-          where
-            typed : (u : ℕ) → u < length (g .types ++ y ∷ []) → (u ≡ length (g .types)) ⊎ (u ≢ length (g .types)) → getD (g .types ++ y ∷ []) u 0 < type-count
-            typed u l (inl e) = subst (λ (j : ℕ). j < type-count) (sym (ap (λ (j : ℕ). getD (g .types ++ y ∷ []) j 0) e ∙ getD-last (g .types) y)) ly
-            typed u l (inr n) =
-                let lu : u < length (g .types) = omega (arith, l, length-append (g .types) (y ∷ []), n) in
-                subst (λ (j : ℕ). j < type-count) (sym (List·getD-append (g .types) (y ∷ []) 0 u lu)) (h .bounds .typed u lu)
+    keep-var x y =
+        check 4 (leb (limits .variables) x) _ λ e₄. check 5 (ltb (length (g .types)) x) _ λ e₅. check 6 (leb type-count y) _ λ e₆.
+        check 7 (ltb x (length (g .types)) && not (eqb y (type-of g x))) _ λ _. choose (ltb x (length (g .types))) _ _ (λ _. nothing x) λ e.
+        let more = length-append (g .types) (y ∷ []) in
+        keep x _ s refl
+        (record {
+          few = h .bounds .few;
+          vars = omega (arith, leb-no (limits .variables) x e₄, ltb-no x (length (g .types)) e, more);
+          typed = λ u l. elim (same? u (length (g .types))) [
+            | inl q ↦ rw (q, getD-last (g .types) y) (leb-no type-count y e₆)
+            | inr n ↦ let lu : u < length (g .types) = omega (arith, l, more) in rw (List·getD-append (g .types) (y ∷ []) 0 u lu) (h .bounds .typed u lu)
+          ];
+          dests = h .bounds .dests;
+          aims = h .bounds .aims;
+          from = h .bounds .from;
+          branches = h .bounds .branches;
+          shut = h .bounds .shut;
+        })
+        (wider-ranged g s (h .ranged) _ (omega arith) (omega (arith, more)) (omega arith) (λ b. refl)) (h .load) (omega arith)
 
     keep-make : (x y : ℕ) → Keep (make-value g s x y)
     keep-make x y = check 6 (no-block g s x || leb type-count y) _ λ e₆. check 9 (g .branch x) _ λ _. check 4 (leb (limits .made) (s .makes)) _ λ e₄.
@@ -157,6 +151,7 @@ module _ (g : Graph) (s : Form) (ds : List Done) (w : Whole ⊥ g s ds) (h : Saf
 
     keep-branch : (b : ℕ) → Keep (new-branch g s b)
     keep-branch b = check 6 (no-block g s b) _ λ e₆. check 9 (g .branch b) _ λ _.
+        let lb = leb-no (g .blocks) b e₆ in
         keep b _ (place-block b s) refl
         (record {
           few = h .bounds .few;
@@ -164,58 +159,40 @@ module _ (g : Graph) (s : Form) (ds : List Done) (w : Whole ⊥ g s ds) (h : Saf
           typed = h .bounds .typed;
           dests = h .bounds .dests;
           aims = h .bounds .aims;
-          from = λ p d i. from p d i (same? p b);
-          branches = λ p e. branches p e (leb-no (g .blocks) b e₆) (same? p b);
+          from = λ p d i. elim (same? p b) [ inl q ↦ put-at b true (g .branch) p q | inr n ↦ put-other b true (g .branch) p n ∙ h .bounds .from p d i ];
+          branches = λ p e. elim (same? p b) [ inl q ↦ rw q lb | inr n ↦ h .bounds .branches p (sym (put-other b true (g .branch) p n) ∙ e) ];
           shut = h .bounds .shut;
         })
-        (wider-ranged g (place-block b s) (place-ranged g s (h .ranged) b (leb-no (g .blocks) b e₆)) _ (omega arith) (omega arith) (omega arith) (λ d. refl)) (load-same s (place-block b s) (λ u d o. o) refl 0 refl refl refl (h .load)) (omega arith)
-      where
-        from : (p d : ℕ) → In d (g .dests p) → (p ≡ b) ⊎ (p ≢ b) → put b true (g .branch) p ≡ true
-        from p d i (inl q) = put-at b true (g .branch) p q
-        from p d i (inr n) = put-other b true (g .branch) p n ∙ h .bounds .from p d i
-
-        branches : (p : ℕ) → put b true (g .branch) p ≡ true → b < g .blocks → (p ≡ b) ⊎ (p ≢ b) → p < g .blocks
-        branches p e lb (inl q) = subst (λ (j : ℕ). j < g .blocks) (sym q) lb
-        branches p e lb (inr n) = h .bounds .branches p (sym (put-other b true (g .branch) p n) ∙ e)
+        (wider-ranged g (place-block b s) (place-ranged g s (h .ranged) b lb) _ (omega arith) (omega arith) (omega arith) (λ d. refl)) (load-placed b) (omega arith)
 
     keep-dest : (p b : ℕ) → Keep (new-dest g s p b)
-    keep-dest p b = check 6 (no-branch g s p || no-block g s b) _ λ e₆. check 11 (declared-anywhere g p) _ λ _. check 10 (leb (limits .dests) (length (g .dests p))) _ λ e₁₀.
+    keep-dest p b =
+        check 6 (no-branch g s p || no-block g s b) _ λ e₆. check 11 (declared-anywhere g p) _ λ _. check 10 (leb (limits .dests) (length (g .dests p))) _ λ e₁₀.
         let o = or-no (no-branch g s p) (no-block g s b) e₆ in
         let br = not-no (g .branch p) (or-no (no-block g s p) (not (g .branch p)) (o .0) .1) in
-        keep (length (g .dests p)) _ s refl
+        let ds = g .dests p ++ b ∷ [] in
+        keep (length (g .dests p)) (with-dests g (put p ds (g .dests))) s refl
         (record {
           few = h .bounds .few;
           vars = h .bounds .vars;
           typed = h .bounds .typed;
-          dests = λ q. dests q (leb-no (limits .dests) (length (g .dests p)) e₁₀) (same? q p);
-          aims = λ q d i. aims q d (leb-no (g .blocks) b (o .1)) (same? q p) i;
-          from = λ q d i. from q d br (same? q p) i;
+          dests = λ q. elim (same? q p) [
+            | inl e ↦ rw (put-at p ds (g .dests) q e, length-append (g .dests p) (b ∷ [])) (omega (arith, leb-no (limits .dests) (length (g .dests p)) e₁₀))
+            | inr n ↦ rw (put-other p ds (g .dests) q n) (h .bounds .dests q)
+          ];
+          aims = λ q d i. elim (put-in d p ds (g .dests) q i) [
+            | inl k ↦ elim (in-cases d (g .dests p) (b ∷ []) (k .1)) [ inl j ↦ h .bounds .aims p d j | inr j ↦ rw (in-one d b j) (leb-no (g .blocks) b (o .1)) ]
+            | inr j ↦ h .bounds .aims q d j
+          ];
+          from = λ q d i. elim (put-in d p ds (g .dests) q i) [ inl k ↦ rw (k .0) br | inr j ↦ h .bounds .from q d j ];
           branches = h .bounds .branches;
           shut = h .bounds .shut;
         })
         (wider-ranged g s (h .ranged) _ (omega arith) (omega arith) (omega arith) (λ d. refl)) (h .load) (omega arith)
-      where
-        dests : (q : ℕ) → length (g .dests p) < limits .dests → (q ≡ p) ⊎ (q ≢ p) → length (put p (g .dests p ++ b ∷ []) (g .dests) q) ≤ limits .dests
-        dests q l (inl e) = subst (λ (r : List ℕ). length r ≤ limits .dests) (sym (put-at p (g .dests p ++ b ∷ []) (g .dests) q e)) (omega (arith, l, length-append (g .dests p) (b ∷ [])))
-        dests q l (inr n) = subst (λ (r : List ℕ). length r ≤ limits .dests) (sym (put-other p (g .dests p ++ b ∷ []) (g .dests) q n)) (h .bounds .dests q)
-
-        aims : (q d : ℕ) → b < g .blocks → (q ≡ p) ⊎ (q ≢ p) → In d (put p (g .dests p ++ b ∷ []) (g .dests) q) → d < g .blocks
-        aims q d lb (inl e) i = on (in-cases d (g .dests p) (b ∷ []) (subst (λ (r : List ℕ). In d r) (put-at p (g .dests p ++ b ∷ []) (g .dests) q e) i))
-          where
-            on : In d (g .dests p) ⊎ In d (b ∷ []) → d < g .blocks
-            on (inl j) = h .bounds .aims p d j
-            on (inr j) = subst (λ (k : ℕ). k < g .blocks) (sym (in-one d b j)) lb
-        aims q d lb (inr n) i = h .bounds .aims q d (subst (λ (r : List ℕ). In d r) (put-other p (g .dests p ++ b ∷ []) (g .dests) q n) i)
-
-        from : (q d : ℕ) → g .branch p ≡ true → (q ≡ p) ⊎ (q ≢ p) → In d (put p (g .dests p ++ b ∷ []) (g .dests) q) → g .branch q ≡ true
-        from q d br (inl e) i = ap (g .branch) e ∙ br
-        from q d br (inr n) i = h .bounds .from q d (subst (λ (r : List ℕ). In d r) (put-other p (g .dests p ++ b ∷ []) (g .dests) q n) i)
 
     -- other predecessors
-    keep-joined : (n b : ℕ) (ps : List ℕ) → Keep (ok n (record { call = g .call; blocks = g .blocks; types = g .types; branch = g .branch; dests = g .dests; preds = put b ps (g .preds); sealed = g .sealed }) s)
-    keep-joined n b ps = keep n _ s refl
-        (record { few = h .bounds .few; vars = h .bounds .vars; typed = h .bounds .typed; dests = h .bounds .dests; aims = h .bounds .aims; from = h .bounds .from; branches = h .bounds .branches; shut = h .bounds .shut })
-        (wider-ranged g s (h .ranged) _ (omega arith) (omega arith) (omega arith) (λ d. refl)) (h .load) (omega arith)
+    keep-joined : (n b : ℕ) (ps : List ℕ) → Keep (ok n (with-preds g (put b ps (g .preds))) s)
+    keep-joined n b ps = keep n _ s refl (h .bounds) (wider-ranged g s (h .ranged) _ (omega arith) (omega arith) (omega arith) (λ d. refl)) (h .load) (omega arith)
 
     keep-pred : (b p : ℕ) → Keep (add-pred g s b p)
     keep-pred b p = check 6 (no-block g s b || no-branch g s p) _ λ _. check 8 (g .sealed b) _ λ _. check 13 (not (has b (g .dests p))) _ λ _. check 12 (has p (g .preds b)) _ λ _. keep-joined _ b _
@@ -272,45 +249,36 @@ pub record Sure (t : State) : Type 0 where
   pub answers : (i x : ℕ) → answered (t .done) i ≡ some x → x < t .form .next
 
 tick-safe : (g : Graph) (s : Form) → Safe g s → Safe (tick g) s
-tick-safe g s h = record {
-  bounds = record { few = h .bounds .few; vars = h .bounds .vars; typed = h .bounds .typed; dests = h .bounds .dests; aims = h .bounds .aims; from = h .bounds .from; branches = h .bounds .branches; shut = h .bounds .shut };
-  ranged = wider-ranged g s (h .ranged) (tick g) (omega arith) (omega arith) (omega arith) (λ b. refl);
-  load = h .load;
-}
+tick-safe g s h = record { bounds = h .bounds; ranged = wider-ranged g s (h .ranged) (tick g) (omega arith) (omega arith) (omega arith) (λ b. refl); load = h .load }
 
 module _ (t : State) (c : Call) (h : Sure t) where
-  after-whole : (r : Reply) → Fine ⊥ (t .graph) (t .form) (t .done) (h .whole) c r → Good ⊥ (after t c r)
-  after-whole r f = after-good ⊥ t c (h .whole) r f
-
   after-sure : (r : Reply) → Good ⊥ (after t c r) → Fine ⊥ (t .graph) (t .form) (t .done) (h .whole) c r → Keep (t .graph) (t .form) (t .done) (h .whole) (h .safe) c r → Sure (after t c r)
   after-sure (no k) w n f = record {
     whole = w;
     safe = tick-safe (t .graph) (t .form) (h .safe);
     count = omega (arith, h .count, length-append (t .done) (record { asked = c; code = k; number = 0 } ∷ []));
     logged = λ z i. omega (arith, h .logged z i);
-    answers = λ i x q. on i x (answered-last (t .done) (record { asked = c; code = k; number = 0 }) i x q);
+    answers = λ i x q. elim (answered-last (t .done) (record { asked = c; code = k; number = 0 }) i x q) [
+      | inl o ↦ h .answers i x o
+      | inr o ↦ absurd (n (eqb-eq k 0 (and-both (eqb (c .kind) 6) (eqb k 0) (o .0) .1)))
+    ];
   }
-    where
-      on : (i x : ℕ) → (answered (t .done) i ≡ some x) ⊎ ((eqb (c .kind) 6 && eqb k 0 ≡ true) × (0 ≡ x)) → x < t .form .next
-      on i x (inl q) = h .answers i x q
-      on i x (inr q) = absurd (n (eqb-eq k 0 (and-both (eqb (c .kind) 6) (eqb k 0) (q .0) .1)))
   after-sure (ok n g s) w u f = record {
     whole = w;
     safe = tick-safe g s (f .safe);
     count = omega (arith, h .count, f .calls, length-append (t .done) (record { asked = c; code = 0; number = n } ∷ []));
     logged = λ z i. omega (arith, f .safe .ranged .logs .noted z i .0);
-    answers = λ i x q. on i x (answered-last (t .done) (record { asked = c; code = 0; number = n }) i x q);
+    answers = λ i x q. elim (answered-last (t .done) (record { asked = c; code = 0; number = n }) i x q) [
+      | inl o ↦ le-trans (h .answers i x o) (f .more)
+      | inr o ↦ rw (o .1) at (f .answer (eqb-eq (c .kind) 6 (and-both (eqb (c .kind) 6) true (o .0) .0)))
+    ];
   }
-    where
-      on : (i x : ℕ) → (answered (t .done) i ≡ some x) ⊎ ((eqb (c .kind) 6 && eqb 0 0 ≡ true) × (n ≡ x)) → x < s .next
-      on i x (inl q) = le-trans (h .answers i x q) (f .more)
-      on i x (inr q) = subst (λ (j : ℕ). j < s .next) (q .1) (f .answer (eqb-eq (c .kind) 6 (and-both (eqb (c .kind) 6) true (q .0) .0)))
 
   pub step-sure : Sure (step t c)
   step-sure =
       let r = reply (t .graph) (t .form) (t .done) (c .x) (c .y) (c .z) (c .kind) in
       let f = fine ⊥ (t .graph) (t .form) (t .done) (h .whole) c (c .kind) refl (λ z. absurd z) in
-      after-sure r (after-whole r f) f (kept (t .graph) (t .form) (t .done) (h .whole) (h .safe) c (c .kind) refl)
+      after-sure r (after-good ⊥ t c (h .whole) r f) f (kept (t .graph) (t .form) (t .done) (h .whole) (h .safe) c (c .kind) refl)
 
 pub run-sure : (cs : List Call) (t : State) → Sure t → Sure (run t cs)
 run-sure [] t h = h
@@ -320,7 +288,16 @@ pub empty-sure : Sure empty
 empty-sure = record {
   whole = empty-good ⊥;
   safe = record {
-    bounds = record { few = omega arith; vars = omega arith; typed = λ w l. absurd (not-suc-le-zero l); dests = λ p. omega arith; aims = λ p b i. absurd i; from = λ p b i. absurd i; branches = λ p e. absurd (false-true refl e); shut = λ b e. absurd (false-true refl e) };
+    bounds = record {
+      few = omega arith;
+      vars = omega arith;
+      typed = λ w l. absurd (not-suc-le-zero l);
+      dests = λ p. omega arith;
+      aims = λ p b i. absurd i;
+      from = λ p b i. absurd i;
+      branches = λ p e. absurd (false-true refl e);
+      shut = λ b e. absurd (false-true refl e);
+    };
     ranged = record {
       valued = record { closed = λ x l. absurd (not-suc-le-zero l); homes = λ x l. absurd (not-suc-le-zero l); types = λ x l. absurd (not-suc-le-zero l) };
       recorded = record { entries = λ w b e q. absurd (some-none q refl); owns = λ w b e q. absurd (some-none q refl); passed = λ p i a k. absurd k };

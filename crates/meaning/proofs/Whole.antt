@@ -26,7 +26,7 @@ use Rattle.meaning.proofs.Lists.{nodup-snoc, in-left, in-right, in-case
 use Rattle.meaning.proofs.Inv.{Grow, grow-refl, grow-trans, Inv, make-inv, make-grow}
 use Rattle.meaning.proofs.Settle.{relog-inv}
 use Rattle.meaning.proofs.Reading.{Sound, Read, reads}
-use Rattle.meaning.proofs.Sealing.{idle, shallow, sealed-one, sound-sealed}
+use Rattle.meaning.proofs.Sealing.{idle, shallow, sealed-one}
 use Rattle.meaning.proofs.Story.{Tells, Keeps, keeps, tells-mono, tells-makes, tells-gives, tells-uses, cur-or, cur-append, acts-append}
 use Rattle.meaning.proofs.Graphs.{wider-inv, aimed-inv, joined-inv, write-inv}
 
@@ -222,7 +222,7 @@ module _ (E : Type 0) (g : Graph) (s : Form) (ds : List Done) (h : Whole E g s d
   fine-seal : Quiet → (b : ℕ) → Fine (seal g s b)
   fine-seal q b = check 6 (no-block g s b) _ (omega arith) λ _. check 8 (g .sealed b) _ (omega arith) λ e.
       let r = sealed-one g E s (h .kp) (h .inv) b e (h .sound) in
-      silent E g s ds h _ (q _) (mark-sealed g b) (seal-form g s b) (r .kp) (r .inv) (sound-sealed g b (h .sound)) (λ c p i. inl i) (r .grow)
+      silent E g s ds h _ (q _) (mark-sealed g b) (seal-form g s b) (r .kp) (r .inv) (h .sound) (λ c p i. inl i) (r .grow)
 
   -- a call that is an act of one block
   spoken : (n : ℕ) (s′ : Form) (kp′ : ℕ → List ℕ) → Inv g E s′ kp′ idle → ((b v : ℕ) → s′ .own v b ≡ cur (λ w. none) (acts b ds ++ act b (said n)) v)
@@ -350,7 +350,7 @@ module _ (E : Type 0) (g : Graph) (s : Form) (ds : List Done) (h : Whole E g s d
   each : (bs : List ℕ) (g₀ : Graph) (s₀ : Form) (kp : ℕ → List ℕ) → Inv g₀ E s₀ kp idle → Sound g₀ → Each g₀ s₀ (seal-each bs g₀ s₀)
   each [] g₀ s₀ kp i G = record { kp = kp; inv = i; sound = G; grow = grow-refl s₀; preds = λ b p j. j }
   each (b ∷ bs) g₀ s₀ kp i G = by (g₀ .sealed b) refl (each bs g₀ s₀ kp i G) (λ e. let r = sealed-one g₀ E s₀ kp i b e G in
-      each bs (mark-sealed g₀ b) (seal-form g₀ s₀ b) (r .kp) (r .inv) (sound-sealed g₀ b G))
+      each bs (mark-sealed g₀ b) (seal-form g₀ s₀ b) (r .kp) (r .inv) G)
     where
       by : (z : Bool) → g₀ .sealed b ≡ z → Each g₀ s₀ (seal-each bs g₀ s₀) → (g₀ .sealed b ≡ false → Each (mark-sealed g₀ b) (seal-form g₀ s₀ b) (seal-each bs (mark-sealed g₀ b) (seal-form g₀ s₀ b)))
           → Each g₀ s₀ (elim z as (λ _. Graph × Form) [ true ↦ seal-each bs g₀ s₀ | false ↦ seal-each bs (mark-sealed g₀ b) (seal-form g₀ s₀ b) ])
