@@ -91,4 +91,4 @@ pub once : (cs : List Call) → Once (session cs .graph) (session cs .form)
 once cs = once-of (session cs .form) (session cs .graph) (caused cs)
 
 pub once-now : (g : Graph) (v : ℕ) (rest : ℕ → List (ℕ × ℕ)) (k : ℕ) (c : Conf) → Moment g v rest k c → Once g (c .form)
-once-now g v rest k c m = once-of (c .form) g (m .now .0 .ranged .caused)
+once-now g v rest k c m = once-of (c .form) g (m .now .0 .rest .ranged .caused)

@@ -82,4 +82,4 @@ chains-end cs x l = let h = sure cs in chain-ends (session cs .form) (h .whole .
 
 pub chains-end-now : (g : Graph) (v : ℕ) (rest : ℕ → List (ℕ × ℕ)) (k : ℕ) (c : Conf) → Moment g v rest k c
     → (x : ℕ) → x < c .form .next → Ends (targets (c .form)) x (resolve (c .form) x)
-chains-end-now g v rest k c m = let h = m .now .0 in chain-ends (c .form) (h .inv .aliased .tree) (h .ranged .valued .closed)
+chains-end-now g v rest k c m = let h = m .now .0 .rest in chain-ends (c .form) (h .inv .aliased .tree) (h .ranged .valued .closed)

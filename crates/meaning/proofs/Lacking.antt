@@ -20,9 +20,13 @@ use Rattle.meaning.proofs.Maps.{put₂-at, put₂-other, here?}
 abbrev pub Has : Option ℕ → Type 0
 Has d = (o : ℕ) × (d ≡ some o)
 
-pub or-has : (a b b′ : Option ℕ) → (Has b → Has b′) → Has (orElse a b) → Has (orElse a b′)
-or-has (some x) b b′ f h = (x, refl)
-or-has none b b′ f h = f h
+pub or-has : {e : Option ℕ} (a : Option ℕ) (x : ℕ) → e ≡ some x → Has (orElse a e)
+or-has (some y) x q = (y, refl)
+or-has none x q = (x, q)
+
+or-keeps : (a b b′ : Option ℕ) → (Has b → Has b′) → Has (orElse a b) → Has (orElse a b′)
+or-keeps (some x) b b′ f h = (x, refl)
+or-keeps none b b′ f h = f h
 
 -- what has a definition keeps one
 abbrev pub Somes : Form → Form → Type 0
@@ -100,7 +104,7 @@ mark-somes v x [] s w b h = h
 mark-somes v x (c ∷ bs) s w b h = one (mark v x bs s) (mark-somes v x bs s w b h)
   where
     one : (t : Form) → Has (def t w b) → Has (def (mark-one v x c t) w b)
-    one t k = or-has (t .own w b) (t .entry w b) (put₂ v c (some x) (t .entry) w b) (λ e. by e (here? w v b c)) k
+    one t k = or-keeps (t .own w b) (t .entry w b) (put₂ v c (some x) (t .entry) w b) (λ e. by e (here? w v b c)) k
       where
         by : Has (t .entry w b) → ((w ≡ v) × (b ≡ c)) ⊎ (w ≡ v → b ≡ c → ⊥) → Has (put₂ v c (some x) (t .entry) w b)
         by e (inl q) = (x, put₂-at v c (some x) (t .entry) w b (q .0) (q .1))
@@ -118,11 +122,7 @@ pub param-somes : (g : Graph) (v c : ℕ) (s : Form) → Somes s (new-param g v 
 param-somes g v c s w b h = mark-somes v (s .next) (c ∷ []) s w b h
 
 pub param-has : (g : Graph) (v c : ℕ) (s : Form) → Has (def (new-param g v c s) v c)
-param-has g v c s = by (s .own v c)
-  where
-    by : (o : Option ℕ) → Has (orElse o (put₂ v c (some (s .next)) (s .entry) v c))
-    by (some y) = (y, refl)
-    by none = (s .next, put₂-at v c (some (s .next)) (s .entry) v c refl refl)
+param-has g v c s = or-has (s .own v c) (s .next) (put₂-at v c (some (s .next)) (s .entry) v c refl refl)
 
 pub write-somes : (s : Form) (v b x : ℕ) → Somes s (write v b x s)
 write-somes s v b x w c o = by (here? w v c b)

@@ -4,7 +4,7 @@ use mathlib.Core.Option.{Option·some-injective, Option, some, none, Option·non
 use mathlib.Core.Path.{fun-ext, _≡_, refl, sym, ap, _∙_, subst}
 use mathlib.Core.Logic.{_≢_, _⊎_, inl, inr}
 use mathlib.Core.Bool.{Bool, true, false, not, _||_, _&&_}
-use lib.Dec.{ltb→lt, eqb, T, eqb→eq, eqb-refl, ltb, leb, nleb→lt, nltb→le}
+use lib.Dec.{lt→ltb, ltb→lt, eqb, T, eqb→eq, eqb-refl, ltb, leb, nleb→lt, nltb→le}
 use native.Mathlib.Omega.{arith}
 use Rattle.definition.specs.Base.{put, put₂, orElse}
 
@@ -51,6 +51,9 @@ and-both false b e = absurd (false-true refl e)
 
 pub ltb-yes : (m n : ℕ) → ltb m n ≡ true → m < n
 ltb-yes m n e = ltb→lt m n (true-T (ltb m n) e)
+
+pub yes-ltb : (m n : ℕ) → m < n → ltb m n ≡ true
+yes-ltb m n l = T-true (ltb m n) (lt→ltb m n l)
 
 pub ltb-no : (m n : ℕ) → ltb m n ≡ false → n ≤ m
 ltb-no m n e = nltb→le m n (subst (λ (b : Bool). T (not b)) (sym e) tt)

@@ -9,18 +9,18 @@ use mathlib.Core.List.{List, [], _∷_, _++_, map, reverse}
 use lib.ListN.{length, take, drop, length-append, length-reverse}
 use native.Mathlib.Omega.{arith}
 use native.Mathlib.Nat.{le-trans}
-use Rattle.definition.specs.Base.{put, has, before, without}
-use Rattle.definition.specs.Form.{Graph, Form, def}
-use Rattle.definition.specs.Read.{mark, new-param, wait, walk, settle, resolve}
+use Rattle.definition.specs.Base.{put, before, without}
+use Rattle.definition.specs.Form.{with-entry, Graph, Form, def}
+use Rattle.definition.specs.Read.{mark, new-param, walk, settle, resolve}
 use Rattle.meaning.specs.Machine.{Task, look, finish, Conf, conf, open-param, find, visit, settle-top, turn, turns}
 use Rattle.meaning.specs.Path.{In}
 use Rattle.meaning.proofs.Maps.{same?, put-same, put-other, false-true, put-put, put-id}
 use Rattle.meaning.proofs.Lists.{in-cons, take-length, take-in, reverse-in, drop-length, drop-in}
-use Rattle.meaning.proofs.Inv.{Grow, pending, Inv, pending-par}
+use Rattle.meaning.proofs.Inv.{pending, Inv, pending-par}
 use Rattle.meaning.proofs.Growing.{grown}
 use Rattle.meaning.proofs.Settle.{Settled, settled}
 use Rattle.meaning.proofs.Reading.{Sound, Busy, busy-grow, Trail, walked, Begun, met-marked, Walked, begun-waiting, begun-working}
-use Rattle.meaning.proofs.Lacking.{Has, Somes, mark-somes, settle-somes, param-somes}
+use Rattle.meaning.proofs.Lacking.{mark-somes, settle-somes, param-somes}
 use Rattle.meaning.proofs.Machine.{Goes, there, on}
 use Rattle.meaning.proofs.Load.{waiting, waiting-put, Added, Load, load-new, settle-adds, load-same, load-settle}
 use Rattle.meaning.proofs.Ranges.{Bounds, Ranged, def-below, mark-is, mark-ranged, settle-ranged, grown-ranged}
@@ -31,11 +31,18 @@ finishes [] k = k
 finishes (look p ∷ ts) k = finishes ts k
 finishes (finish x b ∷ ts) k = suc (finishes ts k)
 
--- the parameters of v at work: those that the stack is to settle, before those that rest
+-- the parameters of v at work: those that the stack is to settle, before those that later
 abbrev pub at-work : ℕ → List Task → (ℕ → List (ℕ × ℕ)) → ℕ → List (ℕ × ℕ)
-at-work v [] rest = rest
-at-work v (look p ∷ ts) rest = at-work v ts rest
-at-work v (finish x b ∷ ts) rest = put b ((v, x) ∷ at-work v ts rest b) (at-work v ts rest)
+at-work v [] later = later
+at-work v (look p ∷ ts) later = at-work v ts later
+at-work v (finish x b ∷ ts) later = put b ((v, x) ∷ at-work v ts later b) (at-work v ts later)
+
+-- the invariant without edges, ranges, and room, where op is at work and k of it are to be settled
+pub record Rest (g : Graph) (op : ℕ → List (ℕ × ℕ)) (k : ℕ) (s : Form) : Type 0 where
+  pub kp : ℕ → List ℕ
+  pub inv : Inv g ⊥ s kp op
+  pub ranged : Ranged g s
+  pub load : Load s k
 
 module _ (g : Graph) where
   -- a block to look at is there, a block to settle in is sealed
@@ -50,13 +57,10 @@ module _ (g : Graph) where
   Fits (look p ∷ ts) n = Fits ts (suc n)
   Fits (finish x b ∷ ts) n = (m : ℕ) × (n ≡ length (g .preds b) + m) × Fits ts (suc m)
 
-module _ (g : Graph) (v : ℕ) (rest : ℕ → List (ℕ × ℕ)) (k : ℕ) where
+module _ (g : Graph) (v : ℕ) (later : ℕ → List (ℕ × ℕ)) (k : ℕ) where
   pub record Mid (ts : List Task) (n : ℕ) (s : Form) : Type 0 where
-    pub kp : ℕ → List ℕ
-    pub inv : Inv g ⊥ s kp (at-work v ts rest)
-    pub ranged : Ranged g s
-    pub load : Load s (finishes ts k)
-    pub busy : Busy g v s (at-work v ts rest)
+    pub rest : Rest g (at-work v ts later) (finishes ts k) s
+    pub busy : Busy g v s (at-work v ts later)
     pub sane : Sane g ts
     pub fits : Fits g ts n
 
@@ -68,25 +72,24 @@ module _ (g : Graph) (v : ℕ) (rest : ℕ → List (ℕ × ℕ)) (k : ℕ) wher
   looks-on (p ∷ ps) ts n s lt h =
       let e : suc (length ps) + n ≡ length ps + suc n = omega arith in
       let r = looks-on ps ts (suc n) s (λ q i. lt q (inr i)) (subst (λ (j : ℕ). Mid ts j s) e h) in
-      record { kp = r .kp; inv = r .inv; ranged = r .ranged; load = r .load; busy = r .busy; sane = (lt p (inl refl), r .sane); fits = r .fits }
+      record { rest = r .rest; busy = r .busy; sane = (lt p (inl refl), r .sane); fits = r .fits }
 
-module _ (g : Graph) (G : Sound g) (B : Bounds g) (v : ℕ) (lv : v < length (g .types)) (rest : ℕ → List (ℕ × ℕ)) (k : ℕ) where
+module _ (g : Graph) (G : Sound g) (B : Bounds g) (v : ℕ) (lv : v < length (g .types)) (later : ℕ → List (ℕ × ℕ)) (k : ℕ) where
   -- looking at p
-  module _ (p : ℕ) (ts : List Task) (rs : List ℕ) (s : Form) (lp : p < g .blocks) (h : Mid g v rest k ts (suc (length rs)) s) (low : (r : ℕ) → In r rs → r < s .next) where
+  module _ (p : ℕ) (ts : List Task) (rs : List ℕ) (s : Form) (lp : p < g .blocks) (h : Mid g v later k ts (suc (length rs)) s) (low : (r : ℕ) → In r rs → r < s .next) where
     abbrev op : ℕ → List (ℕ × ℕ)
-    op = at-work v ts rest
+    op = at-work v ts later
 
-    met-now : (over : List ℕ) (c x : ℕ) → Trail g v s p over c → def s v c ≡ some x → Now g v rest k (conf ts (x ∷ rs) (mark v x over s))
+    met-now : (over : List ℕ) (c x : ℕ) → Trail g v s p over c → def s v c ≡ some x → Now g v later k (conf ts (x ∷ rs) (mark v x over s))
     met-now over c x tr e =
-        let m = met-marked g G v lv ⊥ p s (h .kp) op (h .inv) over c tr x e in
+        let m = met-marked g G v lv ⊥ p s (h .rest .kp) op (h .rest .inv) over c tr x e in
         let t = mark v x over s in
-        let lx = def-below g s (h .ranged) v c x e in
-        let q = mark-is v x over s in (
+        let lx = def-below g s (h .rest .ranged) v c x e in
+        let q = mark-is v x over s in
+        let load = load-same s t (mark-somes v x over s) (ap (λ (f : Form). f .makes) q) (finishes ts k) (ap (λ (f : Form). f .next) q) (ap (λ (f : Form). f .zeros) q)
+        (ap (λ (f : Form). f .pending) q) (h .rest .load) in (
           record {
-            kp = h .kp;
-            inv = m .inv;
-            ranged = mark-ranged g s (h .ranged) v x over lx (m .grow);
-            load = load-same s t (mark-somes v x over s) (ap (λ (f : Form). f .makes) q) (finishes ts k) (ap (λ (f : Form). f .next) q) (ap (λ (f : Form). f .zeros) q) (ap (λ (f : Form). f .pending) q) (h .load);
+            rest = record { kp = h .rest .kp; inv = m .inv; ranged = mark-ranged g s (h .rest .ranged) v x over lx (m .grow); load = load };
             busy = busy-grow g v s t op (m .grow) (h .busy);
             sane = h .sane;
             fits = h .fits;
@@ -98,84 +101,68 @@ module _ (g : Graph) (G : Sound g) (B : Bounds g) (v : ℕ) (lv : v < length (g 
       abbrev x : ℕ
       x = s .next
 
-      -- with a new parameter, where ws waits
-      module _ (ws : ℕ → List (ℕ × ℕ)) (quiet : (b : ℕ) → g .sealed b ≡ true → ws b ≡ []) where
+      -- with a new parameter, where ws waits and op′ is at work
+      module _ (ws op′ : ℕ → List (ℕ × ℕ)) (quiet : (b : ℕ) → g .sealed b ≡ true → ws b ≡ [])
+          (m : Begun g v ⊥ s (h .rest .kp) op′ p c ws (mark v (s .next) (before c over) (grown g s v c ws))) where
         abbrev s₁ : Form
         s₁ = grown g s v c ws
 
         abbrev s₂ : Form
         s₂ = mark v x (before c over) s₁
 
-        set-somes : Somes s s₂
-        set-somes w d o = mark-somes v x (before c over) s₁ w d (param-somes g v c s w d o)
-
-        set-ranged : Grow s s₁ → Grow s₁ s₂ → Ranged g s₂
-        set-ranged up set = mark-ranged g s₁ (grown-ranged g s (h .ranged) v c ws lv lc (B .typed v lv) (h .inv .aliased .fresh (s .next) (omega arith)) up quiet) v x (before c over) (omega arith) set
-
-        set-load : (k′ : ℕ) → Has (def s₂ v c) → waiting ws + k′ ≡ suc (waiting (s .pending) + finishes ts k) → Load s₂ k′
-        set-load k′ has e =
-            let q = mark-is v x (before c over) s₁ in
-            load-new s s₂ set-somes (ap (λ (f : Form). f .makes) q) (finishes ts k) k′ v c (le-trans lv (B .vars)) (le-trans lc (B .few)) lack has
-            (ap (λ (f : Form). f .next) q) (ap (λ (f : Form). f .zeros) q) (ap (λ (f : Form). waiting (f .pending) + k′) q ∙ e) (h .load)
+        is : s₂ ≡ with-entry s₁ (s₂ .entry)
+        is = mark-is v x (before c over) s₁
 
         set-next : s₂ .next ≡ suc (s .next)
-        set-next = ap (λ (f : Form). f .next) (mark-is v x (before c over) s₁)
+        set-next = ap (λ (f : Form). f .next) is
 
-      open-now : (z : Bool) → g .sealed c ≡ z → Now g v rest k (open-param g v c x (before c over) ts rs (new-param g v c s) z)
-      open-now false z = (
-        record {
-          kp = h .kp;
+        set-rest : (k′ : ℕ) → waiting ws + k′ ≡ suc (waiting (s .pending) + finishes ts k) → Rest g op′ k′ s₂
+        set-rest k′ e = record {
+          kp = h .rest .kp;
           inv = m .inv;
-          ranged = set-ranged ws quiet (m .grew) (m .set);
-          load = set-load ws quiet (finishes ts k) (x, m .there)
-              (omega (arith, waiting-put (s .pending) c (s .pending c ++ (v, x) ∷ []) (le-trans lc (B .few)), length-append (s .pending c) ((v, x) ∷ [])));
-          busy = m .busy;
-          sane = h .sane;
-          fits = h .fits;
-        },
-        in-cons x rs (omega (arith, set-next ws quiet)) (λ r i. omega (arith, low r i, set-next ws quiet)),
-      )
+          ranged = mark-ranged g s₁ (grown-ranged g s (h .rest .ranged) v c ws lv lc (B .typed v lv) (h .rest .inv .aliased .fresh (s .next) (omega arith)) (m .grew) quiet)
+              v x (before c over) (omega arith) (m .set);
+          load = load-new s s₂ (λ w d o. mark-somes v x (before c over) s₁ w d (param-somes g v c s w d o)) (ap (λ (f : Form). f .makes) is) (finishes ts k) k′ v c
+              (le-trans lv (B .vars)) (le-trans lc (B .few)) lack (x, m .there) set-next (ap (λ (f : Form). f .zeros) is) (ap (λ (f : Form). waiting (f .pending) + k′) is ∙ e) (h .rest .load);
+        }
+
+      open-now : (z : Bool) → g .sealed c ≡ z → Now g v later k (open-param g v c x (before c over) ts rs (new-param g v c s) z)
+      open-now false z =
+          let ws = put c (s .pending c ++ (v, x) ∷ []) (s .pending) in
+          let m = begun-waiting g G v lv ⊥ p s (h .rest .kp) op (h .rest .inv) over c tr (h .busy) lc lack z in
+          let more = waiting-put (s .pending) c (s .pending c ++ (v, x) ∷ []) (le-trans lc (B .few)) in (
+            record { rest = set-rest ws op quiet m (finishes ts k) (omega (arith, more, length-append (s .pending c) ((v, x) ∷ []))); busy = m .busy; sane = h .sane; fits = h .fits },
+            in-cons x rs (omega (arith, set-next ws op quiet m)) (λ r i. omega (arith, low r i, set-next ws op quiet m)),
+          )
         where
-          ws : ℕ → List (ℕ × ℕ)
-          ws = put c (s .pending c ++ (v, s .next) ∷ []) (s .pending)
-
-          m : Begun g v ⊥ s (h .kp) op p c (put c (s .pending c ++ (v, s .next) ∷ []) (s .pending)) (mark v x (before c over) (wait v c x (new-param g v c s)))
-          m = begun-waiting g G v lv ⊥ p s (h .kp) op (h .inv) over c tr (h .busy) lc lack z
-
           quiet : (b : ℕ) → g .sealed b ≡ true → put c (s .pending c ++ (v, s .next) ∷ []) (s .pending) b ≡ []
-          quiet b e = put-other c (s .pending c ++ (v, x) ∷ []) (s .pending) b (λ q. false-true z (sym (ap (g .sealed) q) ∙ e)) ∙ h .ranged .still b e
+          quiet b e = put-other c (s .pending c ++ (v, x) ∷ []) (s .pending) b (λ q. false-true z (rw q at e)) ∙ h .rest .ranged .still b e
       open-now true z =
-          let m = begun-working g G v lv ⊥ p s (h .kp) op (h .inv) over c tr (h .busy) lc lack z in
-          let still = h .ranged .still in (
-            looks-on g v rest k (g .preds c) (finish x c ∷ ts) (length rs) (mark v x (before c over) (new-param g v c s)) (λ q i. G .range c q i) (record {
-              kp = h .kp;
-              inv = m .inv;
-              ranged = set-ranged (s .pending) still (m .grew) (m .set);
-              load = set-load (s .pending) still (suc (finishes ts k)) (x, m .there) (omega arith);
-              busy = m .busy;
-              sane = (z, h .sane);
-              fits = (length rs, refl, h .fits);
-            }),
-            λ r i. omega (arith, low r i, set-next (s .pending) still),
+          let op′ = put c ((v, x) ∷ op c) op in
+          let m = begun-working g G v lv ⊥ p s (h .rest .kp) op (h .rest .inv) over c tr (h .busy) lc lack z in
+          let still = h .rest .ranged .still in (
+            looks-on g v later k (g .preds c) (finish x c ∷ ts) (length rs) (mark v x (before c over) (new-param g v c s)) (λ q i. G .range c q i)
+                (record { rest = set-rest (s .pending) op′ still m (suc (finishes ts k)) (omega arith); busy = m .busy; sane = (z, h .sane); fits = (length rs, refl, h .fits) }),
+            λ r i. omega (arith, low r i, set-next (s .pending) op′ still m),
           )
 
-    pub visit-now : Now g v rest k (visit g v p ts rs s (def s v p))
+    pub visit-now : Now g v later k (visit g v p ts rs s (def s v p))
     visit-now = by (def s v p) refl
       where
-        past : (over : List ℕ) (c : ℕ) (m : Option ℕ) → Walked g v s p (record { passed = over; end = c; met = m }) → Now g v rest k (find g v ts rs s over c m)
+        past : (over : List ℕ) (c : ℕ) (m : Option ℕ) → Walked g v s p (record { passed = over; end = c; met = m }) → Now g v later k (find g v ts rs s over c m)
         past over c (some x) y = met-now over c x (y .trail) (y .met x refl)
         past over c none y = open-now over c (y .trail) (y .low) (y .unmet refl) (g .sealed c) refl
 
-        by : (d : Option ℕ) → def s v p ≡ d → Now g v rest k (visit g v p ts rs s d)
-        by (some x) e = (h, in-cons x rs (def-below g s (h .ranged) v p x e) low)
+        by : (d : Option ℕ) → def s v p ≡ d → Now g v later k (visit g v p ts rs s d)
+        by (some x) e = (h, in-cons x rs (def-below g s (h .rest .ranged) v p x e) low)
         by none e =
             let w = walk (suc (g .blocks)) g s v [] p in
             past (w .passed) (w .end) (w .met) (walked g G v (suc (g .blocks)) s [] p lp e)
 
   -- settling the parameter x of b
-  module _ (x b : ℕ) (ts : List Task) (rs : List ℕ) (s : Form) (h : Mid g v rest k (finish x b ∷ ts) (length rs) s) (low : (r : ℕ) → In r rs → r < s .next) where
+  module _ (x b : ℕ) (ts : List Task) (rs : List ℕ) (s : Form) (h : Mid g v later k (finish x b ∷ ts) (length rs) s) (low : (r : ℕ) → In r rs → r < s .next) where
     abbrev op₂ : ℕ → List (ℕ × ℕ)
-    op₂ = at-work v ts rest
+    op₂ = at-work v ts later
 
     abbrev n₂ : ℕ
     n₂ = length (g .preds b)
@@ -190,15 +177,17 @@ module _ (g : Graph) (G : Sound g) (B : Bounds g) (v : ℕ) (lv : v < length (g 
     at-top = rw (h .sane .0, put-same b ((v, x) ∷ op₂ b) op₂) (inl refl)
 
     pub top-param : In x (s .params b)
-    top-param = pending-par g ⊥ s (h .kp) (put b ((v, x) ∷ op₂ b) op₂) (h .inv) v b x at-top
+    top-param = pending-par g ⊥ s (h .rest .kp) (put b ((v, x) ∷ op₂ b) op₂) (h .rest .inv) v b x at-top
 
-    settle-now : Now g v rest k (settle-top g x b ts rs s)
+    settle-now : Now g v later k (settle-top g x b ts rs s)
     settle-now = (
       record {
-        kp = d .kp;
-        inv = subst (λ (f : ℕ → List (ℕ × ℕ)). Inv g ⊥ t (d .kp) f) (put-put b (op₂ b) ((v, x) ∷ op₂ b) op₂ ∙ put-id b op₂) (d .inv);
-        ranged = rng .0;
-        load = load-settle s t (settle-somes g b x qs s left) (adds .makes) (finishes ts k) (adds .next) (adds .zeros) (adds .pending) (h .load);
+        rest = record {
+          kp = d .kp;
+          inv = subst (λ (f : ℕ → List (ℕ × ℕ)). Inv g ⊥ t (d .kp) f) (put-put b (op₂ b) ((v, x) ∷ op₂ b) op₂ ∙ put-id b op₂) (d .inv);
+          ranged = rng .0;
+          load = load-settle s t (settle-somes g b x qs s left) (adds .makes) (finishes ts k) (adds .next) (adds .zeros) (adds .pending) (h .rest .load);
+        };
         busy = λ c e. busy c (same? c b) (h .busy c e);
         sane = h .sane .1;
         fits = subst (λ (j : ℕ). Fits g ts (suc j)) (sym (drop-length n₂ (h .fits .0) rs (h .fits .1))) (h .fits .2);
@@ -213,30 +202,30 @@ module _ (g : Graph) (G : Sound g) (B : Bounds g) (v : ℕ) (lv : v < length (g 
         adds = settle-adds g b x qs s left
 
         d : Settled g ⊥ s (put b (op₂ b) (put b ((v, x) ∷ op₂ b) op₂)) x (settle g b x (reverse (take (length (g .preds b)) rs)) s)
-        d = settled g ⊥ s (h .kp) (put b ((v, x) ∷ op₂ b) op₂) (h .inv) v b x (op₂ b) (h .sane .0) (put-same b ((v, x) ∷ op₂ b) op₂) qs
+        d = settled g ⊥ s (h .rest .kp) (put b ((v, x) ∷ op₂ b) op₂) (h .rest .inv) v b x (op₂ b) (h .sane .0) (put-same b ((v, x) ∷ op₂ b) op₂) qs
             (length-reverse (take n₂ rs) ∙ take-length n₂ (h .fits .0) rs (h .fits .1)) (λ z. absurd z) (G .nodup b)
 
         rng : Ranged g (settle g b x (reverse (take (length (g .preds b)) rs)) s .1) × (settle g b x (reverse (take (length (g .preds b)) rs)) s .0 < settle g b x (reverse (take (length (g .preds b)) rs)) s .1 .next)
-        rng = settle-ranged g s (h .ranged) b x (B .shut b (h .sane .0)) (h .inv .listed .pars b x top-param) (h .inv .aliased .fresh (s .next) (omega arith)) qs
+        rng = settle-ranged g s (h .rest .ranged) b x (B .shut b (h .sane .0)) (h .rest .inv .listed .pars b x top-param) (h .rest .inv .aliased .fresh (s .next) (omega arith)) qs
             (λ r i. low r (take-in n₂ rs r (reverse-in (take n₂ rs) r i)))
 
         busy : (c : ℕ) → (c ≡ b) ⊎ (c ≢ b) → (put b ((v, x) ∷ op₂ b) op₂ c ≡ []) ⊎ ((u : ℕ) × (s .entry v c ≡ some u)) → (op₂ c ≡ []) ⊎ ((u : ℕ) × (t .entry v c ≡ some u))
         busy c q (inr j) = inr (j .0, d .grow .entry v c (j .0) (j .1))
-        busy c (inl q) (inl j) = inr (x, d .grow .entry v c x (ap (s .entry v) q ∙ h .inv .pend v b x at-top .0))
+        busy c (inl q) (inl j) = inr (x, d .grow .entry v c x (ap (s .entry v) q ∙ h .rest .inv .pend v b x at-top .0))
         busy c (inr n) (inl j) = inl (sym (put-other b ((v, x) ∷ op₂ b) op₂ c n) ∙ j)
 
-  pub turn-now : (ts : List Task) (rs : List ℕ) (s : Form) → Now g v rest k (conf ts rs s) → Now g v rest k (turn g v ts rs s)
+  pub turn-now : (ts : List Task) (rs : List ℕ) (s : Form) → Now g v later k (conf ts rs s) → Now g v later k (turn g v ts rs s)
   turn-now [] rs s h = h
   turn-now (look p ∷ ts) rs s h =
       let m = h .0 in
-      visit-now p ts rs s (m .sane .0) (record { kp = m .kp; inv = m .inv; ranged = m .ranged; load = m .load; busy = m .busy; sane = m .sane .1; fits = m .fits }) (h .1)
+      visit-now p ts rs s (m .sane .0) (record { rest = m .rest; busy = m .busy; sane = m .sane .1; fits = m .fits }) (h .1)
   turn-now (finish x b ∷ ts) rs s h = settle-now x b ts rs s (h .0) (h .1)
 
   -- at every moment of a run
-  pub turns-now : (n : ℕ) (c : Conf) → Now g v rest k c → Now g v rest k (turns n g v c)
+  pub turns-now : (n : ℕ) (c : Conf) → Now g v later k c → Now g v later k (turns n g v c)
   turns-now zero c h = h
   turns-now (suc n) c h = turns-now n (turn g v (c .tasks) (c .results) (c .form)) (turn-now (c .tasks) (c .results) (c .form) h)
 
-  pub goes-now : {c d : Conf} → Goes g v c d → Now g v rest k c → Now g v rest k d
+  pub goes-now : {c d : Conf} → Goes g v c d → Now g v later k c → Now g v later k d
   goes-now there h = h
   goes-now (on {c} {d} q) h = goes-now q (turn-now (c .tasks) (c .results) (c .form) h)

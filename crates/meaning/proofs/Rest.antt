@@ -1,7 +1,7 @@
 -- Between runs of the machine: the invariant without edges, ranges and room hold before and after each use and each seal. Assumes nothing.
 use Prim.Native.Nat.{ℕ, zero, suc, _+_, _<_, _≤_}
-use mathlib.Core.Path.{_≡_, refl, sym, ap, _∙_, subst, fun-ext}
-use mathlib.Core.Logic.{_≢_, _⊎_, inl, inr}
+use mathlib.Core.Path.{_≡_, refl, sym, _∙_, subst}
+use mathlib.Core.Logic.{inl, inr}
 use mathlib.Core.Bool.{Bool, true, false}
 use mathlib.Core.Option.{some}
 use mathlib.Core.List.{List, [], _∷_, _++_}
@@ -12,29 +12,18 @@ use Rattle.definition.specs.Base.{put, upFrom}
 use Rattle.definition.specs.Form.{Graph, Form}
 use Rattle.definition.specs.Read.{set-pending, fill, read, depth, settle-pending}
 use Rattle.definition.specs.Session.{mark-sealed, seal-form, seal-each}
-use Rattle.meaning.specs.Machine.{look, finish, conf, schedule}
+use Rattle.meaning.specs.Machine.{finish, conf, schedule}
 use Rattle.meaning.specs.Path.{In}
-use Rattle.meaning.proofs.Maps.{same?, put-same, put-other, put-at, put-id}
-use Rattle.meaning.proofs.Inv.{Inv}
+use Rattle.meaning.proofs.Maps.{same?, put-same, put-other, put-at, put-id, put-put}
 use Rattle.meaning.proofs.Reading.{Sound, reads}
 use Rattle.meaning.proofs.Sealing.{idle, shallow, sealed-one, marked-inv}
 use Rattle.meaning.proofs.Machine.{does, fills}
-use Rattle.meaning.proofs.Load.{waiting-put, Load}
-use Rattle.meaning.proofs.Ranges.{Bounds, Ranged}
+use Rattle.meaning.proofs.Load.{waiting-put}
+use Rattle.meaning.proofs.Ranges.{Bounds}
 use Rattle.meaning.proofs.Lacking.{all-fewer}
-use Rattle.meaning.proofs.Mid.{Now, looks-on, goes-now}
-
--- op is at work, and k of it are to be settled
-pub record Rest (g : Graph) (op : ℕ → List (ℕ × ℕ)) (k : ℕ) (s : Form) : Type 0 where
-  pub kp : ℕ → List ℕ
-  pub inv : Inv g ⊥ s kp op
-  pub ranged : Ranged g s
-  pub load : Load s k
+use Rattle.meaning.proofs.Mid.{Now, looks-on, goes-now, Rest}
 
 module _ (g : Graph) (G : Sound g) (B : Bounds g) where
-  pub use-start : (v : ℕ) (lv : v < length (g .types)) (b : ℕ) (s : Form) → b < g .blocks → Rest g idle 0 s → Now g v idle 0 (conf (look b ∷ []) [] s)
-  use-start v lv b s lb h = (record { kp = h .kp; inv = h .inv; ranged = h .ranged; load = h .load; busy = λ c z. inl refl; sane = (lb, tt); fits = tt }, λ r i. absurd i)
-
   -- the parameter at work is known
   pub at-head : (b : ℕ) → g .sealed b ≡ true → (w : ℕ × ℕ) (ws : List (ℕ × ℕ)) (k : ℕ) (s : Form) → Rest g (put b (w ∷ ws) idle) k s → s .entry (w .0) b ≡ some (w .1)
   at-head b seal w ws k s h = h .inv .pend (w .0) b (w .1) (rw (seal, put-same b (w ∷ ws) idle) (inl refl)) .0
@@ -43,45 +32,33 @@ module _ (g : Graph) (G : Sound g) (B : Bounds g) where
       → Now g (w .0) (put b ws idle) (length ws) (conf (schedule g (w .1) b []) [] s)
   seal-start b seal w ws s h = (
     looks-on g (w .0) (put b ws idle) (length ws) (g .preds b) (finish (w .1) b ∷ []) 0 s (λ p i. G .range b p i) (record {
-      kp = h .kp;
-      inv = subst (λ (f : ℕ → List (ℕ × ℕ)). Inv g ⊥ s (h .kp) f) (fun-ext (λ c. same-work c (same? c b))) (h .inv);
-      ranged = h .ranged;
-      load = h .load;
-      busy = λ c e. busy c (same? c b);
+      rest = subst (λ (f : ℕ → List (ℕ × ℕ)). Rest g f (suc (length ws)) s) same-work h;
+      busy = λ c e. elim (same? c b) [
+        | inl q ↦ inr (w .1, rw q (at-head b seal w ws (suc (length ws)) s h))
+        | inr n ↦ inl (put-other b (w ∷ put b ws idle b) (put b ws idle) c n ∙ put-other b ws idle c n)
+      ];
       sane = (seal, tt);
       fits = (0, refl, tt);
     }),
     λ r i. absurd i,
   )
     where
-      same-work : (c : ℕ) → (c ≡ b) ⊎ (c ≢ b) → put b (w ∷ ws) idle c ≡ put b (w ∷ put b ws idle b) (put b ws idle) c
-      same-work c (inl q) = put-at b (w ∷ ws) idle c q ∙ ap {B = List (ℕ × ℕ)} (λ (u : List (ℕ × ℕ)). w ∷ u) (sym (put-same b ws idle)) ∙ sym (put-at b (w ∷ put b ws idle b) (put b ws idle) c q)
-      same-work c (inr n) = put-other b (w ∷ ws) idle c n ∙ sym (put-other b (w ∷ put b ws idle b) (put b ws idle) c n ∙ put-other b ws idle c n)
-
-      busy : (c : ℕ) → (c ≡ b) ⊎ (c ≢ b) → (put b (w ∷ put b ws idle b) (put b ws idle) c ≡ []) ⊎ ((e : ℕ) × (s .entry (w .0) c ≡ some e))
-      busy c (inl q) = inr (w .1, ap (s .entry (w .0)) q ∙ at-head b seal w ws (suc (length ws)) s h)
-      busy c (inr n) = inl (put-other b (w ∷ put b ws idle b) (put b ws idle) c n ∙ put-other b ws idle c n)
-
-  pub run-end : (v : ℕ) (lv : v < length (g .types)) (rest : ℕ → List (ℕ × ℕ)) (k : ℕ) (rs : List ℕ) (s : Form) → Now g v rest k (conf [] rs s) → Rest g rest k s
-  run-end v lv rest k rs s h = record { kp = h .0 .kp; inv = h .0 .inv; ranged = h .0 .ranged; load = h .0 .load }
+      same-work : put b (w ∷ ws) idle ≡ put b (w ∷ put b ws idle b) (put b ws idle)
+      same-work = rw (put-same b ws idle, put-put b (w ∷ ws) ws idle)
 
   -- a use
   pub read-rest : (v : ℕ) (lv : v < length (g .types)) (b : ℕ) (s : Form) → b < g .blocks → Rest g idle 0 s
       → Rest g idle 0 (read (depth g) g v b s .1) × (read (depth g) g v b s .0 < read (depth g) g v b s .1 .next) × (s .next ≤ read (depth g) g v b s .1 .next)
   read-rest v lv b s lb h =
-      let r = read (depth g) g v b s in
-      let e = goes-now g G B v lv idle 0 (does g G v (depth g) b s lb (shallow v s g) [] []) (use-start v lv b s lb h) in
-      (run-end v lv idle 0 (r .0 ∷ []) (r .1) e, e .1 (r .0) (inl refl), reads g G v lv ⊥ (depth g) b s (h .kp) idle lb (h .inv) (λ c z. inl refl) (shallow v s g) .grow .more)
+      let e = goes-now g G B v lv idle 0 (does g G v (depth g) b s lb (shallow v s g) [] []) (record { rest = h; busy = λ c z. inl refl; sane = (lb, tt); fits = tt }, λ r i. absurd i) in
+      (e .0 .rest, e .1 _ (inl refl), reads g G v lv ⊥ (depth g) b s (h .kp) idle lb (h .inv) (λ c z. inl refl) (shallow v s g) .grow .more)
 
   -- the first pending variable
   pub next-rest : (b : ℕ) → g .sealed b ≡ true → (w : ℕ × ℕ) (ws : List (ℕ × ℕ)) (s : Form) → Rest g (put b (w ∷ ws) idle) (suc (length ws)) s
       → Rest g (put b ws idle) (length ws) (fill (read (depth g) g (w .0)) g b (w .1) s .1)
   next-rest b seal w ws s h =
-      let v = w .0 in
-      let lv = h .inv .known v b (w .1) (at-head b seal w ws (suc (length ws)) s h) .0 in
-      let q = fill (read (depth g) g v) g b (w .1) s in
-      let e = goes-now g G B v lv (put b ws idle) (length ws) (fills g G v (depth g) b (w .1) s (shallow v s g) [] []) (seal-start b seal w ws s h) in
-      run-end v lv (put b ws idle) (length ws) (q .0 ∷ []) (q .1) e
+      let lv = h .inv .known (w .0) b (w .1) (at-head b seal w ws (suc (length ws)) s h) .0 in
+      goes-now g G B (w .0) lv (put b ws idle) (length ws) (fills g G (w .0) (depth g) b (w .1) s (shallow (w .0) s g) [] []) (seal-start b seal w ws s h) .0 .rest
 
   -- some of the pending variables, where others are left
   pub some-rest : (b : ℕ) → g .sealed b ≡ true → (us ws : List (ℕ × ℕ)) (s : Form) → Rest g (put b (us ++ ws) idle) (length (us ++ ws)) s → Rest g (put b ws idle) (length ws) (settle-pending g b us s)

@@ -17,9 +17,10 @@ use Rattle.meaning.proofs.Maps.{put-same}
 use Rattle.meaning.proofs.Reading.{Sound}
 use Rattle.meaning.proofs.Sealing.{idle}
 use Rattle.meaning.proofs.Ranges.{Bounds}
-use Rattle.meaning.proofs.Rest.{read-rest, seal-rest, mark-rest, some-rest, bounds-sealed, at-head, Rest}
+use Rattle.meaning.proofs.Rest.{read-rest, seal-rest, mark-rest, some-rest, bounds-sealed, at-head}
+use Rattle.meaning.proofs.Mid.{Rest}
 use Rattle.meaning.proofs.Sure.{sure, Sure}
-use Rattle.meaning.proofs.Rooms.{rooms-of, Moment, moment-turn, use-moment, seal-moment}
+use Rattle.meaning.proofs.Rooms.{rooms-of, Moment, moment-turn, use-moment, seal-moment, resting}
 use Rattle.meaning.proofs.Stored.{stored-of}
 
 pub record Steady (g : Graph) (s : Form) : Type 0 where
@@ -28,17 +29,17 @@ pub record Steady (g : Graph) (s : Form) : Type 0 where
   pub rest : Rest g idle 0 s
 
 pub steady-of : (t : State) → Sure t → Steady (t .graph) (t .form)
-steady-of t h = record { sound = h .whole .sound; bounds = h .safe .bounds; rest = record { kp = h .whole .kp; inv = h .whole .inv; ranged = h .safe .ranged; load = h .safe .load } }
+steady-of t h = record { sound = h .whole .sound; bounds = h .safe .bounds; rest = resting t h }
 
 pub steady : (cs : List Call) → Steady (session cs .graph) (session cs .form)
 steady cs = steady-of (session cs) (sure cs)
 
 module _ (g : Graph) (s : Form) (h : Steady g s) where
   pub steady-rooms : Rooms g s
-  steady-rooms = rooms-of g (h .sound) (h .bounds) s (h .rest .kp) idle 0 (h .rest .inv) (h .rest .ranged) (h .rest .load)
+  steady-rooms = rooms-of g (h .sound) (h .bounds) idle 0 s (h .rest)
 
   pub steady-stored : Stored g s
-  steady-stored = stored-of g (h .sound) (h .bounds) s (h .rest .kp) idle (h .rest .inv) (h .rest .ranged)
+  steady-stored = stored-of g (h .sound) (h .bounds) idle 0 s (h .rest)
 
   -- a use
   module _ (v : ℕ) (lv : v < length (g .types)) (b : ℕ) (lb : b < g .blocks) where

@@ -16,24 +16,23 @@ use Rattle.definition.specs.Session.{Call, session}
 use Rattle.meaning.specs.Machine.{Conf}
 use Rattle.meaning.specs.Path.{In}
 use Rattle.meaning.specs.Stored.{Nodup, Stored}
-use Rattle.meaning.proofs.Maps.{false-true, ltb-no, ltb-yes}
+use Rattle.meaning.proofs.Maps.{false-true, ltb-no, ltb-yes, bool?}
 use Rattle.meaning.proofs.Lists.{has-in, getD-in}
-use Rattle.meaning.proofs.Inv.{Inv}
 use Rattle.meaning.proofs.Reading.{Sound, Trail, walked, only-is}
 use Rattle.meaning.proofs.Sealing.{idle}
-use Rattle.meaning.proofs.Ranges.{Bounds, Ranged}
+use Rattle.meaning.proofs.Ranges.{Bounds}
 use Rattle.meaning.proofs.Sums.{pigeon}
-use Rattle.meaning.proofs.Mid.{at-work}
+use Rattle.meaning.proofs.Mid.{at-work, finishes, Rest}
 use Rattle.meaning.proofs.Sure.{sure}
-use Rattle.meaning.proofs.Rooms.{Moment}
+use Rattle.meaning.proofs.Rooms.{Moment, resting}
 
-pub stored-of : (g : Graph) → Sound g → Bounds g → (s : Form) (kp : ℕ → List ℕ) (op : ℕ → List (ℕ × ℕ)) → Inv g ⊥ s kp op → Ranged g s → Stored g s
-stored-of g G B s kp op h R = record {
+pub stored-of : (g : Graph) → Sound g → Bounds g → (op : ℕ → List (ℕ × ℕ)) (k : ℕ) (s : Form) → Rest g op k s → Stored g s
+stored-of g G B op k s r = let h = r .inv in let R = r .ranged in record {
   entry = λ w b e q. let k = h .known w b e q in (k .0, k .1, R .recorded .entries w b e q);
   own = R .recorded .owns;
   params = λ b x i. let r = h .listed .pars b x i in (subst (λ (j : ℕ). j < g .blocks) (r .home) (R .valued .homes x (r .below)), r .below);
-  waits = λ b w i. waits b w i (g .sealed b) refl;
-  args = λ p i a j. args p i a j (ltb i (length (g .dests p))) refl;
+  waits = waits;
+  args = args;
   preds = λ b p i. (G .inside b p i, G .range b p i, G .names b p i);
   dests = λ p b i. (B .branches p (B .from p b i), B .aims p b i);
   branches = B .branches;
@@ -47,28 +46,26 @@ stored-of g G B s kp op h R = record {
   once = R .logs .once;
 }
   where
-    waits : (b : ℕ) (w : ℕ × ℕ) → In w (s .pending b) → (z : Bool) → g .sealed b ≡ z → (w .0 < length (g .types)) × (b < g .blocks) × (w .1 < s .next)
-    waits b w i true e = absurd (rw (R .still b e) at i)
-    waits b w i false e =
-        let q = h .pend (w .0) b (w .1) (rw e i) .0 in
-        let k = h .known (w .0) b (w .1) q in
-        (k .0, k .1, R .recorded .entries (w .0) b (w .1) q)
+    waits : (b : ℕ) (w : ℕ × ℕ) → In w (s .pending b) → (w .0 < length (g .types)) × (b < g .blocks) × (w .1 < s .next)
+    waits b w i = elim (bool? (g .sealed b)) [
+      | inl e ↦ absurd (rw (r .ranged .still b e) at i)
+      | inr e ↦ let q = r .inv .pend (w .0) b (w .1) (rw e i) .0 in
+          let k = r .inv .known (w .0) b (w .1) q in
+          (k .0, k .1, r .ranged .recorded .entries (w .0) b (w .1) q)
+    ]
 
-    args : (p i a : ℕ) → In a (s .args p i) → (z : Bool) → ltb i (length (g .dests p)) ≡ z → (p < g .blocks) × (i < length (g .dests p)) × (a < s .next)
-    args p i a j true e =
-        let lt = ltb-yes i (length (g .dests p)) e in
-        (B .branches p (B .from p (getD (g .dests p) i 0) (getD-in (g .dests p) i lt)), lt, R .recorded .passed p i a j)
-    args p i a j false e =
-        let k = ltb-no i (length (g .dests p)) e in
-        absurd (subst (λ (l : List ℕ). In a l) (h .passed .unfed p i (λ l _ _. omega (arith, l, k))) j)
+    args : (p i a : ℕ) → In a (s .args p i) → (p < g .blocks) × (i < length (g .dests p)) × (a < s .next)
+    args p i a j = elim (bool? (ltb i (length (g .dests p)))) [
+      | inl e ↦ let lt = ltb-yes i (length (g .dests p)) e in
+          (B .branches p (B .from p (getD (g .dests p) i 0) (getD-in (g .dests p) i lt)), lt, r .ranged .recorded .passed p i a j)
+      | inr e ↦ let k = ltb-no i (length (g .dests p)) e in absurd (rw (r .inv .passed .unfed p i (λ l _ _. omega (arith, l, k))) at j)
+    ]
 
 pub stored : (cs : List Call) → Stored (session cs .graph) (session cs .form)
-stored cs =
-    let h = sure cs in
-    stored-of (session cs .graph) (h .whole .sound) (h .safe .bounds) (session cs .form) (h .whole .kp) idle (h .whole .inv) (h .safe .ranged)
+stored cs = let h = sure cs in stored-of (session cs .graph) (h .whole .sound) (h .safe .bounds) idle 0 (session cs .form) (resting (session cs) h)
 
-pub stored-now : (g : Graph) → Sound g → Bounds g → (v : ℕ) (rest : ℕ → List (ℕ × ℕ)) (k : ℕ) (c : Conf) → Moment g v rest k c → Stored g (c .form)
-stored-now g G B v rest k c m = let h = m .now .0 in stored-of g G B (c .form) (h .kp) (at-work v (c .tasks) rest) (h .inv) (h .ranged)
+pub stored-now : (g : Graph) → Sound g → Bounds g → (v : ℕ) (later : ℕ → List (ℕ × ℕ)) (k : ℕ) (c : Conf) → Moment g v later k c → Stored g (c .form)
+stored-now g G B v later k c m = stored-of g G B (at-work v (c .tasks) later) (finishes (c .tasks) k) (c .form) (m .now .0 .rest)
 
 -- A walk passes no block twice, so at most as many as there are.
 module _ (g : Graph) (s : Form) (v : ℕ) where

@@ -26,7 +26,8 @@ use Rattle.meaning.proofs.Whole.{Whole, Fine, fine}
 use Rattle.meaning.proofs.Demand.{Good, empty-good, after-good}
 use Rattle.meaning.proofs.Ranges.{Bounds, Ranged, write-ranged, make-ranged, wider-ranged, place-ranged}
 use Rattle.meaning.proofs.Lacking.{all-fewer, all-le, write-somes}
-use Rattle.meaning.proofs.Rest.{Rest, read-rest, seal-rest, bounds-sealed, each-rest, up-below}
+use Rattle.meaning.proofs.Mid.{Rest}
+use Rattle.meaning.proofs.Rest.{read-rest, seal-rest, bounds-sealed, each-rest, up-below}
 use Rattle.meaning.proofs.Sums.{sum-most}
 
 getD-last : (l : List ℕ) (y : ℕ) → getD (l ++ y ∷ []) (length l) 0 ≡ y

@@ -55,7 +55,7 @@ module _ (g : Graph) (G : Sound g) (B : Bounds g) (v : ℕ) (rest : ℕ → List
         results = λ n. at n .results;
         rooms = λ n. at n .rooms;
         stored = λ n. stored-now g G B v rest k (turns n g v c) (at n);
-        enough = λ n. enough-of g G (turns n g v c .form) (at n .now .0 .inv .aliased .tree);
+        enough = λ n. enough-of g G (turns n g v c .form) (at n .now .0 .rest .inv .aliased .tree);
         answer = λ n l. goes-turns g G v q refl (call-room limits) (result-room limits) n w (le-trans (w .calls) l);
       }
 
