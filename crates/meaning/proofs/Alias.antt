@@ -2,7 +2,7 @@
 -- Assumes nothing.
 use Prim.Native.Nat.{ℕ, zero, suc, _<_, _≤_}
 use mathlib.Core.Path.{_≡_, refl, sym, ap, _∙_, subst}
-use mathlib.Core.Logic.{_≢_, _⊎_, inl, inr}
+use mathlib.Core.Logic.{_≢_, inl, inr}
 use mathlib.Core.Bool.{true, not}
 use lib.Dec.{eqb}
 use native.Mathlib.Omega.{arith}
@@ -94,12 +94,12 @@ pub follow-more : (t : ℕ → ℕ) (n m z : ℕ) → Tree t n → n ≤ m → f
 follow-more t n m z h l = follow-chain t (h z .chain) m (le-trans (h z .short) (le-trans (cnt-le t n) l)) ∙ sym (ends t n h z)
 
 module _ (t : ℕ → ℕ) (n x y : ℕ) (h : Tree t n) (lt : x < n) (rx : t x ≡ x) (ry : t y ≡ y) (d : y ≢ x) where
-  linked : (z : ℕ) → (h z .root ≡ x) ⊎ (h z .root ≢ x) → Ended (put x y t) n z
-  linked z (inl e) = let more = cnt-put t x y n lt rx d in record { len = suc (h z .len); root = y; chain = chain-move t x y rx ry d (h z .chain) e; short = rw more (omega (arith, h z .short)) }
-  linked z (inr ne) = let more = cnt-put t x y n lt rx d in record { len = h z .len; root = h z .root; chain = chain-keep t x y rx ry d (h z .chain) ne; short = rw more (omega (arith, h z .short)) }
-
   pub tree-alias : Tree (put x y t) n
-  tree-alias z = linked z (same? (h z .root) x)
+  tree-alias z =
+      let more = cnt-put t x y n lt rx d in elim (same? (h z .root) x) [
+        | inl e ↦ record { len = suc (h z .len); root = y; chain = chain-move t x y rx ry d (h z .chain) e; short = rw more (omega (arith, h z .short)) }
+        | inr m ↦ record { len = h z .len; root = h z .root; chain = chain-keep t x y rx ry d (h z .chain) m; short = rw more (omega (arith, h z .short)) }
+      ]
 
   pub follow-keep : (z : ℕ) → follow n t z ≢ x → follow n (put x y t) z ≡ follow n t z
   follow-keep z ne =
@@ -113,8 +113,7 @@ module _ (t : ℕ → ℕ) (n x y : ℕ) (h : Tree t n) (lt : x < n) (rx : t x �
 
   -- what were one stay one
   pub follow-same : (z w : ℕ) → follow n t z ≡ follow n t w → follow n (put x y t) z ≡ follow n (put x y t) w
-  follow-same z w e = by (same? (follow n t z) x)
-    where
-      by : (follow n t z ≡ x) ⊎ (follow n t z ≢ x) → follow n (put x y t) z ≡ follow n (put x y t) w
-      by (inl q) = follow-move z q ∙ sym (follow-move w (sym e ∙ q))
-      by (inr q) = follow-keep z q ∙ e ∙ sym (follow-keep w (λ i. q (e ∙ i)))
+  follow-same z w e = elim (same? (follow n t z) x) [
+    | inl q ↦ follow-move z q ∙ sym (follow-move w (sym e ∙ q))
+    | inr q ↦ follow-keep z q ∙ e ∙ sym (follow-keep w (λ i. q (e ∙ i)))
+  ]

@@ -1,7 +1,7 @@
 -- Blocks without a definition of a variable: no step of reading takes a definition away, so their number, and what they weigh, never grows, and falls
 use Prim.Native.Nat.{ℕ, _+_, _<_, _≤_}
 use mathlib.Core.Path.{_≡_, refl, sym, ap, _∙_, subst}
-use mathlib.Core.Logic.{_⊎_, inl, inr}
+use mathlib.Core.Logic.{inl, inr}
 use mathlib.Core.Bool.{Bool, true, false, cond}
 use mathlib.Core.Option.{Option, none, some}
 use mathlib.Core.List.{List, [], _∷_}
@@ -10,7 +10,7 @@ use native.Mathlib.Omega.{arith}
 use Rattle.entity.specs.Limits.{limits, zero-room}
 use Rattle.definition.specs.Base.{put₂, orElse, every}
 use Rattle.definition.specs.Form.{Form, Graph, def, with-args}
-use Rattle.definition.specs.Read.{new-param, settle-left, mark, mark-one, Got, alias, feed-all, write}
+use Rattle.definition.specs.Read.{new-param, settle-left, mark, Got, alias, feed-all, write}
 use Rattle.meaning.proofs.Sums.{sum, sum-most, sum-le, sum-more}
 use Rattle.meaning.proofs.Maps.{put₂-at, put₂-other, here?}
 
@@ -101,14 +101,12 @@ module _ (s s′ : Form) (up : Somes s s′) where
 
 pub mark-somes : (v x : ℕ) (bs : List ℕ) (s : Form) → Somes s (mark v x bs s)
 mark-somes v x [] s w b h = h
-mark-somes v x (c ∷ bs) s w b h = one (mark v x bs s) (mark-somes v x bs s w b h)
-  where
-    one : (t : Form) → Has (def t w b) → Has (def (mark-one v x c t) w b)
-    one t k = or-keeps (t .own w b) (t .entry w b) (put₂ v c (some x) (t .entry) w b) (λ e. by e (here? w v b c)) k
-      where
-        by : Has (t .entry w b) → ((w ≡ v) × (b ≡ c)) ⊎ (w ≡ v → b ≡ c → ⊥) → Has (put₂ v c (some x) (t .entry) w b)
-        by e (inl q) = (x, put₂-at v c (some x) (t .entry) w b (q .0) (q .1))
-        by e (inr n) = (e .0, put₂-other v c (some x) (t .entry) w b n ∙ e .1)
+mark-somes v x (c ∷ bs) s w b h =
+    let t = mark v x bs s in
+    or-keeps (t .own w b) (t .entry w b) (put₂ v c (some x) (t .entry) w b) (λ e. elim (here? w v b c) [
+      | inl q ↦ (x, put₂-at v c (some x) (t .entry) w b (q .0) (q .1))
+      | inr n ↦ (e .0, put₂-other v c (some x) (t .entry) w b n ∙ e .1)
+    ]) (mark-somes v x bs s w b h)
 
 pub settle-somes : (g : Graph) (b x : ℕ) (rs : List ℕ) (s : Form) (left : List ℕ) → Somes s (settle-left g b x rs s left .1)
 settle-somes g b x rs s [] w c h = h
@@ -125,11 +123,7 @@ pub param-has : (g : Graph) (v c : ℕ) (s : Form) → Has (def (new-param g v c
 param-has g v c s = or-has (s .own v c) (s .next) (put₂-at v c (some (s .next)) (s .entry) v c refl refl)
 
 pub write-somes : (s : Form) (v b x : ℕ) → Somes s (write v b x s)
-write-somes s v b x w c o = by (here? w v c b)
-  where
-    or-left : (a e : Option ℕ) (y : ℕ) → a ≡ some y → Has (orElse a e)
-    or-left a e y q = (y, ap (λ (k : Option ℕ). orElse k e) q)
-
-    by : ((w ≡ v) × (c ≡ b)) ⊎ (w ≡ v → c ≡ b → ⊥) → Has (orElse (put₂ v b (some x) (s .own) w c) (s .entry w c))
-    by (inl k) = or-left (put₂ v b (some x) (s .own) w c) (s .entry w c) x (put₂-at v b (some x) (s .own) w c (k .0) (k .1))
-    by (inr n) = (o .0, ap (λ (k : Option ℕ). orElse k (s .entry w c)) (put₂-other v b (some x) (s .own) w c n) ∙ o .1)
+write-somes s v b x w c o = elim (here? w v c b) [
+  | inl k ↦ (x, ap (λ (d : Option ℕ). orElse d (s .entry w c)) (put₂-at v b (some x) (s .own) w c (k .0) (k .1)))
+  | inr n ↦ (o .0, ap (λ (d : Option ℕ). orElse d (s .entry w c)) (put₂-other v b (some x) (s .own) w c n) ∙ o .1)
+]

@@ -12,7 +12,7 @@ use native.Mathlib.Nat.{not-suc-le-zero, le-of-suc-le-suc}
 use native.Mathlib.Omega.{arith}
 use Rattle.definition.specs.Base.{without, orElse, has, put}
 use Rattle.meaning.specs.Path.{In}
-use Rattle.meaning.proofs.Maps.{same?, eqb-same, eqb-diff, false-true, some-none, put-at, put-other}
+use Rattle.meaning.proofs.Maps.{same?, eqb-same, eqb-diff, false-true, some-none, put-at, put-other, bool?}
 use Rattle.meaning.proofs.Facts.{arg-of}
 
 pub in-left : {A : Type 0} (x : A) (l r : List A) → In x l → In x (l ++ r)
@@ -41,15 +41,10 @@ getD-in (x ∷ l) (suc i) h = inr (getD-in l i (le-of-suc-le-suc h))
 pub in-cases : {A : Type 0} (x : A) (l r : List A) → In x (l ++ r) → In x l ⊎ In x r
 in-cases x [] r h = inr h
 in-cases x (y ∷ l) r (inl e) = inl (inl e)
-in-cases x (y ∷ l) r (inr h) = more (in-cases x l r h)
-  where
-    more : In x l ⊎ In x r → In x (y ∷ l) ⊎ In x r
-    more (inl i) = inl (inr i)
-    more (inr i) = inr i
+in-cases x (y ∷ l) r (inr h) = ⊎-map inr (λ i. i) (in-cases x l r h)
 
 pub has-in : (p : ℕ) (l : List ℕ) → In p l → has p l ≡ true
-has-in p [] i = absurd i
-has-in p (q ∷ l) (inl e) = rw (ap (λ (k : ℕ). eqb k q) e ∙ eqb-same q) refl
+has-in p (q ∷ l) (inl e) = rw (e, eqb-same q) refl
 has-in p (q ∷ l) (inr i) = by (eqb p q) (has-in p l i)
   where
     by : (b : Bool) → has p l ≡ true → b || has p l ≡ true
@@ -58,18 +53,10 @@ has-in p (q ∷ l) (inr i) = by (eqb p q) (has-in p l i)
 
 pub in-has : (p : ℕ) (l : List ℕ) → has p l ≡ true → In p l
 in-has p [] e = absurd (false-true refl e)
-in-has p (q ∷ l) e = by (same? p q) (in-has p l)
-  where
-    by : (p ≡ q) ⊎ (p ≢ q) → (has p l ≡ true → In p l) → In p (q ∷ l)
-    by (inl k) below = inl k
-    by (inr n) below = inr (below (rw (eqb-diff p q n) at e))
+in-has p (q ∷ l) e = elim (same? p q) [ inl k ↦ inl k | inr n ↦ inr (in-has p l (rw (eqb-diff p q n) at e)) ]
 
 pub not-has : (x : ℕ) (l : List ℕ) → (In x l → ⊥) → has x l ≡ false
-not-has x l n = by (has x l) refl
-  where
-    by : (b : Bool) → has x l ≡ b → b ≡ false
-    by true e = absurd (n (in-has x l e))
-    by false e = refl
+not-has x l n = elim (bool? (has x l)) [ inl e ↦ absurd (n (in-has x l e)) | inr e ↦ e ]
 
 -- what stands in the list at j, where the list at k is l
 pub put-in : {A : Type 0} (a : A) (k : ℕ) (l : List A) (f : ℕ → List A) (j : ℕ) → In a (put k l f j) → ((j ≡ k) × In a l) ⊎ In a (f j)
@@ -77,12 +64,7 @@ put-in a k l f j i = elim (same? j k) [ inl q ↦ inl (q, rw (put-at k l f j q) 
 
 pub nodup-snoc : (l : List ℕ) (x : ℕ) → Nodup l → (In x l → ⊥) → Nodup (l ++ x ∷ [])
 nodup-snoc [] x h n = ((λ i. i), tt)
-nodup-snoc (y ∷ l) x h n = (λ i. by (in-cases y l (x ∷ []) i), nodup-snoc l x (h .1) (λ i. n (inr i)))
-  where
-    by : In y l ⊎ In y (x ∷ []) → ⊥
-    by (inl i) = h .0 i
-    by (inr (inl e)) = n (inl (sym e))
-    by (inr (inr i)) = i
+nodup-snoc (y ∷ l) x h n = (λ i. elim (in-cases y l (x ∷ []) i) [ inl j ↦ h .0 j | inr j ↦ n (inl (sym (in-one y x j))) ], nodup-snoc l x (h .1) (λ i. n (inr i)))
 
 -- in a list without duplicates, what stands in the first part is not in the second
 pub nodup-apart : (l r : List ℕ) (x : ℕ) → Nodup (l ++ r) → In x l → In x r → ⊥
@@ -96,17 +78,13 @@ nodup-right (y ∷ l) r h = nodup-right l r (h .1)
 
 pub without-in : (x : ℕ) (l : List ℕ) (y : ℕ) → In y (without x l) → In y l × (y ≢ x)
 without-in x [] y h = absurd h
-without-in x (z ∷ l) y h = by (same? z x) h (without-in x l y)
-  where
-    by : (z ≡ x) ⊎ (z ≢ x) → In y (without x (z ∷ l)) → (In y (without x l) → In y l × (y ≢ x)) → In y (z ∷ l) × (y ≢ x)
-    by (inl e) i below =
-        let j : In y (without x l) = rw (ap (λ (k : ℕ). eqb k x) e ∙ eqb-same x) at i in
-        (inr (below j .0), below j .1)
-    by (inr ne) i below = on (rw (eqb-diff z x ne) at i)
-      where
-        on : (y ≡ z) ⊎ In y (without x l) → In y (z ∷ l) × (y ≢ x)
-        on (inl q) = (inl q, λ r. ne (sym q ∙ r))
-        on (inr j) = (inr (below j .0), below j .1)
+without-in x (z ∷ l) y h = elim (same? z x) [
+  | inl e ↦ let k = without-in x l y (rw (e, eqb-same x) at h) in (inr (k .0), k .1)
+  | inr n ↦ elim (rw (eqb-diff z x n) at h) [
+    | inl q ↦ (inl q, λ r. n (sym q ∙ r))
+    | inr i ↦ let k = without-in x l y i in (inr (k .0), k .1)
+  ]
+]
 
 pub without-none : (x : ℕ) (l : List ℕ) → (In x l → ⊥) → without x l ≡ l
 without-none x [] h = refl
@@ -181,19 +159,10 @@ drop-in (suc n) (x ∷ l) r i = inr (drop-in n l r i)
 
 aux-in : (l a : List ℕ) (r : ℕ) → In r (reverseAux l a) → In r l ⊎ In r a
 aux-in [] a r i = inr i
-aux-in (x ∷ l) a r i = on (aux-in l (x ∷ a) r i)
-  where
-    on : In r l ⊎ In r (x ∷ a) → In r (x ∷ l) ⊎ In r a
-    on (inl j) = inl (inr j)
-    on (inr (inl e)) = inl (inl e)
-    on (inr (inr j)) = inr j
+aux-in (x ∷ l) a r i = elim (aux-in l (x ∷ a) r i) [ inl j ↦ inl (inr j) | inr j ↦ elim j [ inl e ↦ inl (inl e) | inr k ↦ inr k ] ]
 
 pub reverse-in : (l : List ℕ) (r : ℕ) → In r (reverse l) → In r l
-reverse-in l r i = on (aux-in l [] r i)
-  where
-    on : In r l ⊎ In r [] → In r l
-    on (inl j) = j
-    on (inr j) = absurd j
+reverse-in l r i = elim (aux-in l [] r i) [ inl j ↦ j | inr j ↦ absurd j ]
 
 pub take-length : (n m : ℕ) (l : List ℕ) → length l ≡ n + m → length (take n l) ≡ n
 take-length zero m l e = refl

@@ -15,6 +15,13 @@ T-true false h = absurd h
 true-T : (b : Bool) → b ≡ true → T b
 true-T b e = subst (λ (c : Bool). T c) (sym e) tt
 
+pub false-true : {b : Bool} → b ≡ false → b ≡ true → ⊥
+false-true p q = let z : _≡_ {A = ℕ} 0 1 = cc in omega arith
+
+pub bool? : (b : Bool) → (b ≡ true) ⊎ (b ≡ false)
+bool? true = inl refl
+bool? false = inr refl
+
 pub eqb-same : (k : ℕ) → eqb k k ≡ true
 eqb-same k = T-true (eqb k k) (eqb-refl k)
 
@@ -22,28 +29,10 @@ pub eqb-eq : (j k : ℕ) → eqb j k ≡ true → j ≡ k
 eqb-eq j k e = eqb→eq j k (true-T (eqb j k) e)
 
 pub eqb-diff : (j k : ℕ) → j ≢ k → eqb j k ≡ false
-eqb-diff j k n = at (eqb j k) refl
-  where
-    at : (b : Bool) → eqb j k ≡ b → eqb j k ≡ false
-    at true e = absurd (n (eqb-eq j k e))
-    at false e = e
+eqb-diff j k n = elim (bool? (eqb j k)) [ inl e ↦ absurd (n (eqb-eq j k e)) | inr e ↦ e ]
 
 pub same? : (j k : ℕ) → (j ≡ k) ⊎ (j ≢ k)
-same? j k = at (eqb j k) refl
-  where
-    no-match : eqb j k ≡ false → j ≡ k → ⊥
-    no-match e q = subst (λ (b : Bool). T b) (sym (eqb-same k) ∙ ap (λ (i : ℕ). eqb i k) (sym q) ∙ e) tt
-
-    at : (b : Bool) → eqb j k ≡ b → (j ≡ k) ⊎ (j ≢ k)
-    at true e = inl (eqb-eq j k e)
-    at false e = inr (no-match e)
-
-pub false-true : {b : Bool} → b ≡ false → b ≡ true → ⊥
-false-true p q = let z : _≡_ {A = ℕ} 0 1 = cc in omega arith
-
-pub bool? : (b : Bool) → (b ≡ true) ⊎ (b ≡ false)
-bool? true = inl refl
-bool? false = inr refl
+same? j k = elim (bool? (eqb j k)) [ inl e ↦ inl (eqb-eq j k e) | inr e ↦ inr (λ q. false-true e (rw q (eqb-same k))) ]
 
 pub and-both : (a b : Bool) → a && b ≡ true → (a ≡ true) × (b ≡ true)
 and-both true b e = (refl, e)
@@ -80,18 +69,13 @@ module _ {ℓ} {A : Type ℓ} where
   put-at k a f j q = ap (λ (i : ℕ). put k a f i) q ∙ put-same k a f
 
   pub put-id : (k : ℕ) (f : ℕ → A) → put k (f k) f ≡ f
-  put-id k f = fun-ext (λ j. by j (same? j k))
-    where
-      by : (j : ℕ) → (j ≡ k) ⊎ (j ≢ k) → put k (f k) f j ≡ f j
-      by j (inl q) = put-at k (f k) f j q ∙ ap f (sym q)
-      by j (inr n) = put-other k (f k) f j n
+  put-id k f = fun-ext (λ j. elim (same? j k) [ inl q ↦ put-at k (f k) f j q ∙ ap f (sym q) | inr n ↦ put-other k (f k) f j n ])
 
   pub put-put : (k : ℕ) (a b : A) (f : ℕ → A) → put k a (put k b f) ≡ put k a f
-  put-put k a b f = fun-ext (λ j. by j (same? j k))
-    where
-      by : (j : ℕ) → (j ≡ k) ⊎ (j ≢ k) → put k a (put k b f) j ≡ put k a f j
-      by j (inl q) = put-at k a (put k b f) j q ∙ sym (put-at k a f j q)
-      by j (inr n) = put-other k a (put k b f) j n ∙ put-other k b f j n ∙ sym (put-other k a f j n)
+  put-put k a b f = fun-ext (λ j. elim (same? j k) [
+    | inl q ↦ put-at k a (put k b f) j q ∙ sym (put-at k a f j q)
+    | inr n ↦ put-other k a (put k b f) j n ∙ put-other k b f j n ∙ sym (put-other k a f j n)
+  ])
 
 -- maps of two keys
 module _ {A : Type 0} where
@@ -99,20 +83,17 @@ module _ {A : Type 0} where
   put₂-at k l a f i j p q = ap (λ (h : ℕ → A). h j) (put-at k (put l a (f k)) f i p) ∙ put-at l a (f k) j q
 
   pub put₂-other : (k l : ℕ) (a : A) (f : ℕ → ℕ → A) (i j : ℕ) → (i ≡ k → j ≡ l → ⊥) → put₂ k l a f i j ≡ f i j
-  put₂-other k l a f i j n = by (same? i k)
-    where
-      by : (i ≡ k) ⊎ (i ≢ k) → put₂ k l a f i j ≡ f i j
-      by (inl p) = ap (λ (h : ℕ → A). h j) (put-at k (put l a (f k)) f i p) ∙ put-other l a (f k) j (n p) ∙ ap (λ (h : ℕ). f h j) (sym p)
-      by (inr p) = ap (λ (h : ℕ → A). h j) (put-other k (put l a (f k)) f i p)
+  put₂-other k l a f i j n = elim (same? i k) [
+    | inl p ↦ ap (λ (h : ℕ → A). h j) (put-at k (put l a (f k)) f i p) ∙ put-other l a (f k) j (n p) ∙ ap (λ (h : ℕ). f h j) (sym p)
+    | inr p ↦ ap (λ (h : ℕ → A). h j) (put-other k (put l a (f k)) f i p)
+  ]
 
 -- is it this pair of keys?
 pub here? : (i k j l : ℕ) → ((i ≡ k) × (j ≡ l)) ⊎ (i ≡ k → j ≡ l → ⊥)
-here? i k j l = by (same? i k) (same? j l)
-  where
-    by : (i ≡ k) ⊎ (i ≢ k) → (j ≡ l) ⊎ (j ≢ l) → ((i ≡ k) × (j ≡ l)) ⊎ (i ≡ k → j ≡ l → ⊥)
-    by (inl p) (inl q) = inl (p, q)
-    by (inl p) (inr q) = inr (λ _ h. q h)
-    by (inr p) q = inr (λ h _. p h)
+here? i k j l = elim (same? i k) [
+  | inl p ↦ elim (same? j l) [ inl q ↦ inl (p, q) | inr q ↦ inr (λ _ h. q h) ]
+  | inr p ↦ inr (λ h _. p h)
+]
 
 pub some-inj : {a b : ℕ} → _≡_ {A = Option ℕ} (some a) (some b) → a ≡ b
 some-inj e = Option·some-injective _ _ e

@@ -1,11 +1,10 @@
 -- Reading a variable keeps the invariant, and answers what the block then records. Assumes nothing.
 use Prim.Native.Nat.{ℕ, zero, suc, _<_}
 use mathlib.Core.Path.{_≡_, refl, sym, ap, _∙_, subst}
-use mathlib.Core.Logic.{_≢_, _⊎_, inl, inr}
+use mathlib.Core.Logic.{⊎-map, _≢_, _⊎_, inl, inr}
 use mathlib.Core.Bool.{Bool, true, false, cond}
 use mathlib.Core.Option.{Option, none, some}
 use mathlib.Core.List.{List, [], _∷_, _++_}
-use lib.Dec.{eqb}
 use lib.ListN.{length}
 use native.Mathlib.Omega.{arith}
 use native.Mathlib.Nat.{le-trans, not-suc-le-zero}
@@ -15,8 +14,7 @@ use Rattle.definition.specs.Read.{Got, resolve, mark-one, mark, settle, only, s
 use Rattle.definition.specs.Read.{read-past, read-on, read, wait}
 use Rattle.meaning.specs.Path.{In}
 use Rattle.meaning.specs.Stored.{Nodup}
-use Rattle.meaning.proofs.Maps.{same?, put-same, put-other, eqb-same, eqb-diff, some-inj, put₂-at, put₂-other, here?, some-none, or-none, put-put}
-use Rattle.meaning.proofs.Maps.{put-id}
+use Rattle.meaning.proofs.Maps.{same?, put-same, put-other, eqb-same, eqb-diff, some-inj, put₂-at, put₂-other, some-none, or-none, put-put, put-id}
 use Rattle.meaning.proofs.Inv.{Grow, grow-refl, grow-trans, def-grow, pending, Inv, mark-inv, mark-grow}
 use Rattle.meaning.proofs.Keeping.{Results, results-length}
 use Rattle.meaning.proofs.Growing.{grown, grown-grow, grown-inv}
@@ -49,11 +47,7 @@ module _ (g : Graph) (v : ℕ) where
   Busy s op = (c : ℕ) → g .sealed c ≡ true → (op c ≡ []) ⊎ ((e : ℕ) × (s .entry v c ≡ some e))
 
   pub busy-grow : (s s′ : Form) (op : ℕ → List (ℕ × ℕ)) → Grow s s′ → Busy s op → Busy s′ op
-  busy-grow s s′ op h k c e = on (k c e)
-    where
-      on : (op c ≡ []) ⊎ ((e : ℕ) × (s .entry v c ≡ some e)) → (op c ≡ []) ⊎ ((e : ℕ) × (s′ .entry v c ≡ some e))
-      on (inl q) = inl q
-      on (inr q) = inr (q .0, h .entry v c (q .0) (q .1))
+  busy-grow s s′ op h k c e = ⊎-map (λ q. q) (λ q. (q .0, h .entry v c (q .0) (q .1))) (k c e)
 
   -- a walk from b over blocks that lack v, to e
   abbrev pub Trail : Form → ℕ → List ℕ → ℕ → Type 0
@@ -68,11 +62,10 @@ module _ (g : Graph) (v : ℕ) where
 
   pub trail-before : (s : Form) (b e : ℕ) (l : List ℕ) → Trail s b l e → Trail s b (before e l) e
   trail-before s b e [] h = h
-  trail-before s b e (c ∷ l) h = by (same? c e) (trail-before s (h .2 .0) e l (h .2 .2))
-    where
-      by : (c ≡ e) ⊎ (c ≢ e) → Trail s (h .2 .0) (before e l) e → Trail s b (before e (c ∷ l)) e
-      by (inl q) below = rw (ap (λ (k : ℕ). eqb k e) q ∙ eqb-same e) (h .0 ∙ q)
-      by (inr n) below = rw (eqb-diff c e n) (h .0, h .1, (h .2 .0, h .2 .1, below))
+  trail-before s b e (c ∷ l) h = elim (same? c e) [
+    | inl q ↦ rw (q, eqb-same e) (h .0 ∙ q)
+    | inr n ↦ rw (eqb-diff c e n) (h .0, h .1, (h .2 .0, h .2 .1, trail-before s (h .2 .0) e l (h .2 .2)))
+  ]
 
   module _ (E : Type 0) where
     pub record Read (s : Form) (op : ℕ → List (ℕ × ℕ)) (b : ℕ) (r : Got) : Type 0 where
@@ -172,12 +165,11 @@ module _ (g : Graph) (G : Sound g) (v : ℕ) (lv : v < length (g .types)) (E : T
         inv = mark-inv g E s₁ kp op (below .inv) v x c p fr (both .0) one (below .here) lv lc;
         grow = grow-trans s s₁ (mark-one v x c s₁) (below .grow) gr;
         here = ap (def (mark-one v x c s₁) v) (tr .0) ∙ ap (λ (a : Option ℕ). orElse a (put₂ v c (some x) (s₁ .entry) v c)) bare ∙ put₂-at v c (some x) (s₁ .entry) v c refl refl;
-        free = λ c′ q u i. on (below .free) c′ q u i (here? v v c′ c);
+        free = λ c′ q u i. elim (same? c′ c) [
+          | inl k ↦ some-inj (sym i ∙ put₂-at v c (some x) (s₁ .entry) v c′ refl k)
+          | inr n ↦ below .free c′ q u (sym (put₂-other v c (some x) (s₁ .entry) v c′ (λ _. n)) ∙ i)
+        ];
       }
-    where
-      on : ((c′ : ℕ) → def s₀ v c′ ≡ none → (u : ℕ) → mark v x l s .entry v c′ ≡ some u → u ≡ x) → (c′ : ℕ) → def s₀ v c′ ≡ none → (u : ℕ) → put₂ v c (some x) (mark v x l s .entry) v c′ ≡ some u → ((v ≡ v) × (c′ ≡ c)) ⊎ (v ≡ v → c′ ≡ c → ⊥) → u ≡ x
-      on f c′ q u i (inl k) = some-inj (sym i ∙ put₂-at v c (some x) (mark v x l s .entry) v c′ refl (k .1))
-      on f c′ q u i (inr n) = f c′ q u (sym (put₂-other v c (some x) (mark v x l s .entry) v c′ n) ∙ i)
 
   -- after a walk from b over the blocks `over` to c
   module _ (b : ℕ) (s : Form) (kp : ℕ → List ℕ) (op : ℕ → List (ℕ × ℕ)) (h : Inv g E s kp op) (over : List ℕ) (c : ℕ) (tr : Trail g v s b over c) where
@@ -204,11 +196,11 @@ module _ (g : Graph) (G : Sound g) (v : ℕ) (lv : v < length (g .types)) (E : T
 
         set-out : Marked g v E s s₁ kp op′ b x (mark v x (before c over) s₁)
         set-out = marked s s₁ kp op′ x c (grown-inv g E s kp op op′ h v c ws (unmarked c lack) lv low elsewhere there) (λ w d. refl)
-            (λ d q u i. on d q u i (here? v v d c)) at-c (before c over) b (trail-before g v s b c over tr)
-          where
-            on : (d : ℕ) → def s v d ≡ none → (u : ℕ) → put₂ v c (some x) (s .entry) v d ≡ some u → ((v ≡ v) × (d ≡ c)) ⊎ (v ≡ v → d ≡ c → ⊥) → u ≡ x
-            on d q u i (inl j) = some-inj (sym i ∙ put₂-at v c (some x) (s .entry) v d refl (j .1))
-            on d q u i (inr j) = absurd (some-none (sym (put₂-other v c (some x) (s .entry) v d j) ∙ i) (unmarked d q))
+            (λ d q u i. elim (same? d c) [
+              | inl j ↦ some-inj (sym i ∙ put₂-at v c (some x) (s .entry) v d refl j)
+              | inr n ↦ absurd (some-none (sym (put₂-other v c (some x) (s .entry) v d (λ _. n)) ∙ i) (unmarked d q))
+            ])
+            at-c (before c over) b (trail-before g v s b c over tr)
 
         begun : ((s′ : Form) → Grow s s′ → s′ .entry v c ≡ some x → Busy g v s′ op′) → Begun g v E s kp op′ b c ws (mark v x (before c over) s₁)
         begun busy =
@@ -233,22 +225,14 @@ module _ (g : Graph) (G : Sound g) (v : ℕ) (lv : v < length (g .types)) (E : T
 
       -- that is at work
       pub begun-working : g .sealed c ≡ true → Begun g v E s kp (put c ((v, x) ∷ op c) op) b c (s .pending) (mark v x (before c over) (new-param g v c s))
-      begun-working e = begun (s .pending) (put c ((v, x) ∷ op c) op) (λ d n. rw (put-other c ((v, x) ∷ op c) op d n)) there (λ s′ up at d z. busy s′ up at d z (same? d c))
+      begun-working e = begun (s .pending) (put c ((v, x) ∷ op c) op) (λ d n. rw (put-other c ((v, x) ∷ op c) op d n)) (rw e (put-same c ((v, x) ∷ op c) op ∙ rw none-there))
+          (λ s′ up at d z. elim (same? d c) [
+            | inl i ↦ inr (x, rw i at)
+            | inr n ↦ ⊎-map (λ j. put-other c ((v, x) ∷ op c) op d n ∙ j) (λ j. j) (busy-grow g v s s′ op up k d z)
+          ])
         where
-          none-there : (op c ≡ []) ⊎ ((u : ℕ) × (s .entry v c ≡ some u)) → op c ≡ []
-          none-there (inl q) = q
-          none-there (inr q) = absurd (some-none (q .1) (unmarked c lack))
-
-          there : cond (g .sealed c) (put c ((v, x) ∷ op c) op c) (s .pending c) ≡ pending g s op c ++ (v, s .next) ∷ []
-          there = rw e (put-same c ((v, x) ∷ op c) op ∙ rw (none-there (k c e)))
-
-          busy : (s′ : Form) → Grow s s′ → s′ .entry v c ≡ some x → (d : ℕ) → g .sealed d ≡ true → (d ≡ c) ⊎ (d ≢ c) → (put c ((v, x) ∷ op c) op d ≡ []) ⊎ ((u : ℕ) × (s′ .entry v d ≡ some u))
-          busy s′ up at d z (inl i) = inr (x, ap (s′ .entry v) i ∙ at)
-          busy s′ up at d z (inr i) = on (busy-grow g v s s′ op up k d z)
-            where
-              on : (op d ≡ []) ⊎ ((u : ℕ) × (s′ .entry v d ≡ some u)) → (put c ((v, x) ∷ op c) op d ≡ []) ⊎ ((u : ℕ) × (s′ .entry v d ≡ some u))
-              on (inl j) = inl (put-other c ((v, x) ∷ op c) op d i ∙ j)
-              on (inr j) = inr j
+          none-there : op c ≡ []
+          none-there = elim (k c e) [ inl q ↦ q | inr q ↦ absurd (some-none (q .1) (unmarked c lack)) ]
 
       by-seal : (n : ℕ) (rec : ℕ → Form → Got) → Reads g v E n rec → lacks v s (g .blocks) < suc n → (z : Bool) → g .sealed c ≡ z → Read g v E s op b (begin rec g v c x (before c over) (new-param g v c s) z)
       by-seal n rec R l false e = let m = begun-waiting e in record { kp = kp; inv = m .inv; grow = m .grow; o = x; recorded = m .here; alike = refl }

@@ -14,7 +14,7 @@ use Rattle.meaning.specs.Path.{In, Act, makes, gives, uses, act, acts}
 use Rattle.meaning.proofs.Maps.{same?, put-other, put-at}
 use Rattle.meaning.proofs.Facts.{cur, Told}
 use Rattle.meaning.proofs.Inv.{Grow}
-use Rattle.meaning.proofs.Lists.{in-cases}
+use Rattle.meaning.proofs.Lists.{in-cases, in-one}
 
 -- as Told, but for what a definition takes
 abbrev pub Tells : Form → ℕ → (ℕ → Option ℕ) → List ℕ → List Act → Type 0
@@ -35,11 +35,10 @@ abbrev pub Under : (ℕ → Option ℕ) → (ℕ → Option ℕ) → Type 0
 Under f f′ = (v o : ℕ) → f v ≡ some o → f′ v ≡ some o
 
 pub under-put : (f f′ : ℕ → Option ℕ) (v x : ℕ) → Under f f′ → Under (put v (some x) f) (put v (some x) f′)
-under-put f f′ v x h w o e = by (same? w v)
-  where
-    by : (w ≡ v) ⊎ (w ≢ v) → put v (some x) f′ w ≡ some o
-    by (inl q) = put-at v (some x) f′ w q ∙ sym (put-at v (some x) f w q) ∙ e
-    by (inr n) = put-other v (some x) f′ w n ∙ h w o (sym (put-other v (some x) f w n) ∙ e)
+under-put f f′ v x h w o e = elim (same? w v) [
+  | inl q ↦ put-at v (some x) f′ w q ∙ sym (put-at v (some x) f w q) ∙ e
+  | inr n ↦ put-other v (some x) f′ w n ∙ h w o (sym (put-other v (some x) f w n) ∙ e)
+]
 
 pub tells-mono : (s s′ : Form) → Keeps s s′ → (b : ℕ) (f f′ : ℕ → Option ℕ) (ms : List ℕ) → Under f f′ → (r : List Act) → Tells s b f ms r → Tells s′ b f′ ms r
 tells-mono s s′ h b f f′ ms u [] k = tt
@@ -80,11 +79,10 @@ pub cur-or : (f : ℕ → Option ℕ) (r : List Act) (g : ℕ → Option ℕ) (v
 cur-or f [] g v = refl
 cur-or f (makes x ∷ r) g v = cur-or f r g v
 cur-or f (uses w x ∷ r) g v = cur-or f r g v
-cur-or f (gives w x ∷ r) g v = ap (λ (h : ℕ → Option ℕ). cur h r v) (fun-ext (λ u. on u (same? u w))) ∙ cur-or f r (put w (some x) g) v
-  where
-    on : (u : ℕ) → (u ≡ w) ⊎ (u ≢ w) → put w (some x) (λ y. orElse (g y) (f y)) u ≡ orElse (put w (some x) g u) (f u)
-    on u (inl q) = put-at w (some x) (λ y. orElse (g y) (f y)) u q ∙ sym (ap (λ (z : Option ℕ). orElse z (f u)) (put-at w (some x) g u q))
-    on u (inr n) = put-other w (some x) (λ y. orElse (g y) (f y)) u n ∙ sym (ap (λ (z : Option ℕ). orElse z (f u)) (put-other w (some x) g u n))
+cur-or f (gives w x ∷ r) g v = ap (λ (h : ℕ → Option ℕ). cur h r v) (fun-ext (λ u. elim (same? u w) [
+  | inl q ↦ put-at w (some x) (λ y. orElse (g y) (f y)) u q ∙ sym (ap (λ (z : Option ℕ). orElse z (f u)) (put-at w (some x) g u q))
+  | inr n ↦ put-other w (some x) (λ y. orElse (g y) (f y)) u n ∙ sym (ap (λ (z : Option ℕ). orElse z (f u)) (put-other w (some x) g u n))
+])) ∙ cur-or f r (put w (some x) g) v
 
 pub cur-append : (f : ℕ → Option ℕ) (r q : List Act) → cur f (r ++ q) ≡ cur (cur f r) q
 cur-append f [] q = refl
@@ -103,51 +101,22 @@ Made-in pre ms = (x : ℕ) → In (makes x) pre → In x ms
 abbrev Used-in : List Act → List ℕ → Type 0
 Used-in pre us = (w x : ℕ) → In (uses w x) pre → In x us
 
+made-makes : (pre : List Act) (ms : List ℕ) (y : ℕ) → Made-in pre ms → Made-in (pre ++ makes y ∷ []) (y ∷ ms)
+made-makes pre ms y h x i = elim (in-cases (makes x) pre (makes y ∷ []) i) [ inl j ↦ inr (h x j) | inr j ↦ let e = in-one (makes x) (makes y) j in inl (cc) ]
+
+made-other : (pre : List Act) (ms : List ℕ) (c : Act) → ((x : ℕ) → makes x ≡ c → ⊥) → Made-in pre ms → Made-in (pre ++ c ∷ []) ms
+made-other pre ms c n h x i = elim (in-cases (makes x) pre (c ∷ []) i) [ inl j ↦ h x j | inr j ↦ absurd (n x (in-one (makes x) c j)) ]
+
+used-uses : (pre : List Act) (us : List ℕ) (v y : ℕ) → Used-in pre us → Used-in (pre ++ uses v y ∷ []) (y ∷ us)
+used-uses pre us v y h w x i = elim (in-cases (uses w x) pre (uses v y ∷ []) i) [ inl j ↦ inr (h w x j) | inr j ↦ let e = in-one (uses w x) (uses v y) j in inl (cc) ]
+
+used-other : (pre : List Act) (us : List ℕ) (c : Act) → ((w x : ℕ) → uses w x ≡ c → ⊥) → Used-in pre us → Used-in (pre ++ c ∷ []) us
+used-other pre us c n h w x i = elim (in-cases (uses w x) pre (c ∷ []) i) [ inl j ↦ h w x j | inr j ↦ absurd (n w x (in-one (uses w x) c j)) ]
+
 act-num : Act → ℕ
 act-num (makes x) = 0
 act-num (gives v x) = 1
 act-num (uses v x) = 2
-
-act-val : Act → ℕ
-act-val (makes x) = x
-act-val (gives v x) = x
-act-val (uses v x) = x
-
-last-one : (a c : Act) (pre : List Act) → In a (pre ++ c ∷ []) → In a pre ⊎ (a ≡ c)
-last-one a c pre i = on (in-cases a pre (c ∷ []) i)
-  where
-    on : In a pre ⊎ In a (c ∷ []) → In a pre ⊎ (a ≡ c)
-    on (inl j) = inl j
-    on (inr (inl e)) = inr e
-    on (inr (inr z)) = absurd z
-
-made-makes : (pre : List Act) (ms : List ℕ) (y : ℕ) → Made-in pre ms → Made-in (pre ++ makes y ∷ []) (y ∷ ms)
-made-makes pre ms y h x i = on (last-one (makes x) (makes y) pre i)
-  where
-    on : In (makes x) pre ⊎ (makes x ≡ makes y) → In x (y ∷ ms)
-    on (inl j) = inr (h x j)
-    on (inr e) = inl (cc)
-
-made-other : (pre : List Act) (ms : List ℕ) (c : Act) → ((x : ℕ) → makes x ≡ c → ⊥) → Made-in pre ms → Made-in (pre ++ c ∷ []) ms
-made-other pre ms c n h x i = on (last-one (makes x) c pre i)
-  where
-    on : In (makes x) pre ⊎ (makes x ≡ c) → In x ms
-    on (inl j) = h x j
-    on (inr e) = absurd (n x e)
-
-used-uses : (pre : List Act) (us : List ℕ) (v y : ℕ) → Used-in pre us → Used-in (pre ++ uses v y ∷ []) (y ∷ us)
-used-uses pre us v y h w x i = on (last-one (uses w x) (uses v y) pre i)
-  where
-    on : In (uses w x) pre ⊎ (uses w x ≡ uses v y) → In x (y ∷ us)
-    on (inl j) = inr (h w x j)
-    on (inr e) = inl (cc)
-
-used-other : (pre : List Act) (us : List ℕ) (c : Act) → ((w x : ℕ) → uses w x ≡ c → ⊥) → Used-in pre us → Used-in (pre ++ c ∷ []) us
-used-other pre us c n h w x i = on (last-one (uses w x) c pre i)
-  where
-    on : In (uses w x) pre ⊎ (uses w x ≡ c) → In x us
-    on (inl j) = h w x j
-    on (inr e) = absurd (n w x e)
 
 apart : {a c : Act} → a ≡ c → act-num a ≢ act-num c → ⊥
 apart e n = n (ap act-num e)
@@ -165,13 +134,9 @@ module _ (g : Graph) (s : Form) (root : (x : ℕ) → s .info x .sort ≡ made �
     told-all f (x ∷ ms) us (pre ++ makes x ∷ []) r (e ∙ sym (append-assoc pre (makes x ∷ []) r)) (made-makes pre ms x m) (used-other pre us (makes x) (λ w y q. apart q (omega arith)) u) (k .4),
   )
   told-all f ms us pre (gives v x ∷ r) e m u k = (
-    on (own v x pre r e),
+    elim (own v x pre r e) [ inl i ↦ inl (m x i) | inr i ↦ inr (u (i .0) x (i .1)) ],
     told-all (put v (some x) f) ms us (pre ++ gives v x ∷ []) r (e ∙ sym (append-assoc pre (gives v x ∷ []) r)) (made-other pre ms (gives v x) (λ y q. apart q (omega arith)) m)
         (used-other pre us (gives v x) (λ w y q. apart q (omega arith)) u) k,
   )
-    where
-      on : In (makes x) pre ⊎ ((w : ℕ) × In (uses w x) pre) → In x ms ⊎ In x us
-      on (inl i) = inl (m x i)
-      on (inr i) = inr (u (i .0) x (i .1))
   told-all f ms us pre (uses v x ∷ r) e m u k =
       (k .0, told-all f ms (x ∷ us) (pre ++ uses v x ∷ []) r (e ∙ sym (append-assoc pre (uses v x ∷ []) r)) (made-other pre ms (uses v x) (λ y q. apart q (omega arith)) m) (used-uses pre us v x u) (k .1))
