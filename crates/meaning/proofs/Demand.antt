@@ -57,7 +57,6 @@ run-more (c ∷ cs) t =
     (m .0 ∷ k .0, k .1 ∙ ap (λ (l : List Done). l ++ k .0) (m .1) ∙ append-assoc (t .done) (m .0 ∷ []) (k .0))
 
 split-in : (d : Done) (l : List Done) → In d l → (a b : List Done) × (l ≡ a ++ d ∷ b)
-split-in d [] i = absurd i
 split-in d (x ∷ l) (inl e) = ([], l, ap {B = List Done} (λ y. y ∷ l) (sym e))
 split-in d (x ∷ l) (inr i) = let k = split-in d l i in (x ∷ k .0, k .1, ap {B = List Done} (λ r. x ∷ r) (k .2))
 

@@ -16,7 +16,6 @@ use Rattle.meaning.proofs.Maps.{same?, eqb-same, eqb-diff, false-true, 
 use Rattle.meaning.proofs.Facts.{arg-of}
 
 pub in-left : {A : Type 0} (x : A) (l r : List A) → In x l → In x (l ++ r)
-in-left x [] r h = absurd h
 in-left x (y ∷ l) r (inl e) = inl e
 in-left x (y ∷ l) r (inr h) = inr (in-left x l r h)
 
@@ -77,7 +76,6 @@ nodup-right [] r h = h
 nodup-right (y ∷ l) r h = nodup-right l r (h .1)
 
 pub without-in : (x : ℕ) (l : List ℕ) (y : ℕ) → In y (without x l) → In y l × (y ≢ x)
-without-in x [] y h = absurd h
 without-in x (z ∷ l) y h = elim (same? z x) [
   | inl e ↦ let k = without-in x l y (rw (e, eqb-same x) at h) in (inr (k .0), k .1)
   | inr n ↦ elim (rw (eqb-diff z x n) at h) [
@@ -148,13 +146,11 @@ or-mono none a′ b b′ o p h q = ap (λ (c : Option ℕ). orElse c b′) p ∙
 -- lists of results
 pub take-in : (n : ℕ) (l : List ℕ) (r : ℕ) → In r (take n l) → In r l
 take-in zero l r i = absurd i
-take-in (suc n) [] r i = absurd i
 take-in (suc n) (x ∷ l) r (inl e) = inl e
 take-in (suc n) (x ∷ l) r (inr i) = inr (take-in n l r i)
 
 pub drop-in : (n : ℕ) (l : List ℕ) (r : ℕ) → In r (drop n l) → In r l
 drop-in zero l r i = i
-drop-in (suc n) [] r i = absurd i
 drop-in (suc n) (x ∷ l) r i = inr (drop-in n l r i)
 
 aux-in : (l a : List ℕ) (r : ℕ) → In r (reverseAux l a) → In r l ⊎ In r a
@@ -180,12 +176,10 @@ in-cons {P} x l p h r (inl e) = subst P (sym e) p
 in-cons {P} x l p h r (inr i) = h r i
 
 pub map-in : (f : ℕ → ℕ) (l : List ℕ) (y : ℕ) → In y (map f l) → (r : ℕ) × In r l × (y ≡ f r)
-map-in f [] y i = absurd i
 map-in f (z ∷ l) y (inl e) = (z, inl refl, e)
 map-in f (z ∷ l) y (inr i) = let k = map-in f l y i in (k .0, inr (k .1), k .2)
 
 pub in-map : (f : ℕ → ℕ) (l : List ℕ) (r : ℕ) → In r l → In (f r) (map f l)
-in-map f [] r i = absurd i
 in-map f (z ∷ l) r (inl e) = inl (ap f e)
 in-map f (z ∷ l) r (inr i) = inr (in-map f l r i)
 

@@ -101,7 +101,6 @@ module _ (g : Graph) (s : Form) (v : ℕ) where
 module _ (g : Graph) (G : Sound g) (v : ℕ) (s : Form) where
   -- the blocks passed are there, without a definition of v, and sealed
   trail-low : (l : List ℕ) (b e : ℕ) → b < g .blocks → Trail g v s b l e → (c : ℕ) → In c l → (c < g .blocks) × (def s v c ≡ none)
-  trail-low [] b e lb t c i = absurd i
   trail-low (d ∷ l) b e lb t c (inl q) = (subst (λ (j : ℕ). j < g .blocks) (t .0 ∙ sym q) lb, ap (def s v) q ∙ t .1)
   trail-low (d ∷ l) b e lb t c (inr i) = trail-low l (t .2 .0) e (G .range d (t .2 .0) (subst (λ (k : List ℕ). In (t .2 .0) k) (sym (only-is (g .sealed d) (g .preds d) (t .2 .0) (t .2 .1) .1)) (inl refl))) (t .2 .2) c i
 

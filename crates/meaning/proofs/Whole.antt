@@ -62,7 +62,6 @@ module _ (E : Type 0) (g : Graph) (s : Form) (ds : List Done) (h : Whole E g s d
       on b p old (inr e) = (d, in-right d ds (d ∷ []) (inl refl), e)
 
 some-no : (f : ℕ → Bool) (l : List ℕ) → any f l ≡ false → (x : ℕ) → In x l → f x ≡ false
-some-no f [] e x i = absurd i
 some-no f (y ∷ l) e x (inl k) = ap f k ∙ or-no (f y) (any f l) e .0
 some-no f (y ∷ l) e x (inr i) = some-no f l (or-no (f y) (any f l) e .1) x i
 
@@ -82,7 +81,6 @@ butlast-in (x ∷ y ∷ l) q (inl e) = inl e
 butlast-in (x ∷ y ∷ l) q (inr i) = inr (butlast-in (y ∷ l) q i)
 
 butlast-apart : (d x : ℕ) (l : List ℕ) → Nodup (x ∷ l) → (q : ℕ) → In q (but-last (x ∷ l)) → q ≢ last d (x ∷ l)
-butlast-apart d x [] n q i e = absurd i
 butlast-apart d x (y ∷ l) n q (inl k) e = n .0 (subst (λ (j : ℕ). In j (y ∷ l)) (sym e ∙ k) (last-in x y l))
 butlast-apart d x (y ∷ l) n q (inr i) e = butlast-apart x y l (n .1) q i e
 
