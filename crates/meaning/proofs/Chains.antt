@@ -9,14 +9,10 @@ use lib.ListN.{length, getD, length-map}
 use native.Mathlib.Omega.{arith}
 use native.Mathlib.Nat.{not-suc-le-zero}
 use Rattle.definition.specs.Base.{upFrom}
-use Rattle.definition.specs.Form.{Graph, Form}
+use Rattle.definition.specs.Form.{Form}
 use Rattle.definition.specs.Read.{follow, resolve}
 use Rattle.definition.specs.Resolve.{Ends, here, on, Resolved, past, ends, lost, targets}
-use Rattle.definition.specs.Session.{Call, session}
-use Rattle.meaning.specs.Machine.{Conf}
 use Rattle.meaning.proofs.Alias.{Tree, root-is}
-use Rattle.meaning.proofs.Sure.{sure}
-use Rattle.meaning.proofs.Rooms.{Moment}
 
 -- one walk, one end
 module _ (ts : List ℕ) where
@@ -76,10 +72,3 @@ module _ (s : Form) (tree : Tree (s .target) (s .next)) (closed : (x : ℕ) → 
 
   pub chain-ends : (x : ℕ) → x < s .next → Ends (targets s) x (resolve s x)
   chain-ends x l = follow-ends (s .next) x l (root-is (s .target) (s .next) x tree)
-
-pub chains-end : (cs : List Call) (x : ℕ) → x < session cs .form .next → Ends (targets (session cs .form)) x (resolve (session cs .form) x)
-chains-end cs x l = let h = sure cs in chain-ends (session cs .form) (h .whole .inv .aliased .tree) (h .safe .ranged .valued .closed) x l
-
-pub chains-end-now : (g : Graph) (v : ℕ) (rest : ℕ → List (ℕ × ℕ)) (k : ℕ) (c : Conf) → Moment g v rest k c
-    → (x : ℕ) → x < c .form .next → Ends (targets (c .form)) x (resolve (c .form) x)
-chains-end-now g v rest k c m = let h = m .now .0 .rest in chain-ends (c .form) (h .inv .aliased .tree) (h .ranged .valued .closed)

@@ -11,14 +11,12 @@ use native.Mathlib.Omega.{arith}
 use native.Mathlib.Nat.{le-trans, not-suc-le-zero}
 use Rattle.definition.specs.Base.{has}
 use Rattle.definition.specs.Form.{Graph, Form, def}
-use Rattle.definition.specs.Session.{Call, session}
 use Rattle.definition.specs.Read.{walk, depth, Got, read, fill, single, past, on-to, Walk}
 use Rattle.meaning.specs.Enough.{Enough}
 use Rattle.meaning.specs.Machine.{Conf, conf, schedule, look, finish, turns}
 use Rattle.meaning.specs.Stored.{Nodup}
 use Rattle.meaning.specs.Path.{In}
 use Rattle.meaning.proofs.Reading.{Sound, only-is}
-use Rattle.meaning.proofs.Sure.{sure}
 use Rattle.meaning.proofs.Alias.{Tree, follow-more}
 use Rattle.meaning.proofs.Maps.{same?, false-true}
 use Rattle.meaning.proofs.Heights.{Low, low-more, looks-left}
@@ -84,6 +82,3 @@ module _ (g : Graph) (G : Sound g) where
     walks = λ v b n lb l. walks v b n s lb l;
     follows = λ x n l. follow-more (s .target) (s .next) n x t l;
   }
-
-pub enough : (cs : List Call) → Enough (session cs .graph) (session cs .form)
-enough cs = let h = sure cs .whole in enough-of (session cs .graph) (h .sound) (session cs .form) (h .inv .aliased .tree)

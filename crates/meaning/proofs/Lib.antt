@@ -31,6 +31,7 @@ pub mod Port
 pub mod Enough
 pub mod Stored
 pub mod Steady
+pub mod Holds
 pub mod Turns
 pub mod Answers
 pub mod Theorems

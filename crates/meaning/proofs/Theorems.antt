@@ -3,9 +3,10 @@ use Prim.Native.Nat.{ℕ, _<_}
 use mathlib.Core.Path.{_≡_}
 use mathlib.Core.Bool.{true}
 use mathlib.Core.List.{List}
+use mathlib.Core.Option.{some}
 use lib.ListN.{length, getD}
-use Rattle.definition.specs.Session.{Call, session, seal-each}
-use Rattle.definition.specs.Resolve.{Resolved, targets, ends}
+use Rattle.definition.specs.Session.{Call, session, seal-each, answered}
+use Rattle.definition.specs.Resolve.{Resolved, targets}
 use Rattle.definition.specs.Read.{resolve}
 use Rattle.definition.specs.Base.{_∷ʳ_}
 use Rattle.meaning.specs.Path.{Supposed, In, Faithful, Fed}
@@ -15,15 +16,15 @@ use Rattle.meaning.specs.Stored.{Stored}
 use Rattle.meaning.specs.Rooms.{Rooms}
 use Rattle.meaning.specs.Causes.{Once}
 use Rattle.meaning.specs.Enough.{Enough}
-use Rattle.meaning.proofs.Chains.{resolved-same, chains-end}
-use Rattle.meaning.proofs.Rooms.{fed-always, rooms}
+use Rattle.meaning.specs.Holds.{Holds}
+use Rattle.meaning.proofs.Chains.{resolved-same}
+use Rattle.meaning.proofs.Rooms.{fed-always}
 use Rattle.meaning.proofs.Steady.{calls-count, logged}
 use Rattle.meaning.proofs.Turns.{scheduled, scheduled-all}
-use Rattle.meaning.proofs.Enough.{enough}
-use Rattle.meaning.proofs.Causes.{once}
-use Rattle.meaning.proofs.Stored.{stored}
 use Rattle.meaning.proofs.Demand.{demand-3}
 use Rattle.meaning.proofs.Answers.{answered-one}
+use Rattle.meaning.proofs.Holds.{holds}
+use Rattle.meaning.proofs.Sure.{sure}
 
 -- ---- demand 3
 
@@ -46,41 +47,41 @@ pub machine-is-recursion-in-turn : (cs : List Call) (bs : List ℕ) → ((b : �
     → let r = seal-each bs (session cs .graph) (session cs .form) in Scheduled (r .0) (r .1)
 machine-is-recursion-in-turn = scheduled-all
 
--- ---- after every list of calls
+-- ---- after every list of calls, and at every moment of a use and of a seal
+
+-- All that `Holds` lists; the next theorems are its parts.
+pub always-holds : (cs : List Call) → Holds (session cs .graph) (session cs .form)
+always-holds = holds
 
 -- No table needs more than its room.
 pub rooms-suffice : (cs : List Call) → Rooms (session cs .graph) (session cs .form)
-rooms-suffice = rooms
+rooms-suffice cs = holds cs .rooms
 
 -- Every number that a table holds names something that is there.
 pub numbers-named : (cs : List Call) → Stored (session cs .graph) (session cs .form)
-numbers-named = stored
-
--- A zero was logged by a call of the list.
-pub zeros-logged : (cs : List Call) (z : ℕ × ℕ) → In z (session cs .form .zeros) → z .0 < length cs
-zeros-logged = logged
+numbers-named cs = holds cs .stored
 
 -- A variable causes at most one parameter and one zero per block.
 pub causes-once : (cs : List Call) → Once (session cs .graph) (session cs .form)
-causes-once = once
+causes-once cs = holds cs .once
+
+-- Every chain of aliases ends, and the definition resolves as the public resolving does: with code 0 and the end of the chain.
+pub chains-resolve : (cs : List Call) (x : ℕ) → x < session cs .form .next → Resolved (targets (session cs .form)) x 0 (resolve (session cs .form) x)
+chains-resolve cs = holds cs .chains
+
+-- The bounds that the definition computes with are never met: a greater depth of reading, a longer walk, more links change nothing.
+pub bounds-suffice : (cs : List Call) → Enough (session cs .graph) (session cs .form)
+bounds-suffice cs = holds cs .enough
+
+-- Resolving has one answer, over any list.
+pub resolving-determined : (ts : List ℕ) (x k n l m : ℕ) → Resolved ts x k n → Resolved ts x l m → (k ≡ l) × (n ≡ m)
+resolving-determined = resolved-same
 
 -- Each destination of a declared predecessor of a sealed block has as many arguments as the block has parameters.
 pub arguments-match : (cs : List Call) (p i : ℕ) → let g = session cs .graph in
     let b = getD (g .dests p) i 0 in
     i < length (g .dests p) → g .sealed b ≡ true → In p (g .preds b) → length (session cs .form .args p i) ≡ length (session cs .form .params b)
 arguments-match = fed-always
-
--- Every chain of aliases ends, and the definition resolves as the public resolving does: with code 0 and the end of the chain.
-pub chains-resolve : (cs : List Call) (x : ℕ) → x < session cs .form .next → Resolved (targets (session cs .form)) x 0 (resolve (session cs .form) x)
-chains-resolve cs x l = ends (chains-end cs x l)
-
--- Resolving has one answer, over any list.
-pub resolving-determined : (ts : List ℕ) (x k n l m : ℕ) → Resolved ts x k n → Resolved ts x l m → (k ≡ l) × (n ≡ m)
-resolving-determined = resolved-same
-
--- The bounds that the definition computes with are never met: a greater depth of reading, a longer walk, more links change nothing.
-pub bounds-suffice : (cs : List Call) → Enough (session cs .graph) (session cs .form)
-bounds-suffice = enough
 
 -- ---- calls and answers
 
@@ -91,3 +92,10 @@ one-answer = answered-one
 -- So as many calls are counted, and as many answers given, as there are calls.
 pub all-answered : (cs : List Call) → (session cs .graph .call ≡ length cs) × (length (session cs .done) ≡ length cs)
 all-answered = calls-count
+
+-- An accepted use's answer names a value that is there, and a zero was logged by a call of the list.
+pub answers-named : (cs : List Call) (i x : ℕ) → answered (session cs .done) i ≡ some x → x < session cs .form .next
+answers-named cs = sure cs .answers
+
+pub zeros-logged : (cs : List Call) (z : ℕ × ℕ) → In z (session cs .form .zeros) → z .0 < length cs
+zeros-logged = logged

@@ -24,8 +24,7 @@ use Rattle.meaning.proofs.Port.{idle-turn, goes-turns}
 use Rattle.meaning.proofs.Steady.{Steady, steady, sound-then, during-use, during-seal, bounds-then}
 use Rattle.meaning.proofs.Ranges.{Bounds}
 use Rattle.meaning.proofs.Rooms.{Moment}
-use Rattle.meaning.proofs.Stored.{stored-now}
-use Rattle.meaning.proofs.Enough.{enough-of}
+use Rattle.meaning.proofs.Holds.{holds-now}
 
 module _ (g : Graph) (v : ℕ) where
   -- a run that ends goes on from its first turn
@@ -53,9 +52,7 @@ module _ (g : Graph) (G : Sound g) (B : Bounds g) (v : ℕ) (rest : ℕ → List
       record {
         calls = λ n. omega (arith, w .calls, taken-left g G v n (call-room limits) (result-room limits) c w);
         results = λ n. at n .results;
-        rooms = λ n. at n .rooms;
-        stored = λ n. stored-now g G B v rest k (turns n g v c) (at n);
-        enough = λ n. enough-of g G (turns n g v c .form) (at n .now .0 .rest .inv .aliased .tree);
+        holds = λ n. holds-now g G B v rest k (turns n g v c) (at n);
         answer = λ n l. goes-turns g G v q refl (call-room limits) (result-room limits) n w (le-trans (w .calls) l);
       }
 

@@ -3,6 +3,7 @@ pub mod Machine
 pub mod Rooms
 pub mod Stored
 pub mod Enough
-pub mod Turns
 pub mod Causes
+pub mod Holds
+pub mod Turns
 pub mod Answers
