@@ -67,6 +67,14 @@ module _ (g : Graph) (v : ℕ) (later : ℕ → List (ℕ × ℕ)) (k : ℕ) whe
   abbrev pub Now : Conf → Type 0
   Now c = Mid (c .tasks) (length (c .results)) (c .form) × ((r : ℕ) → In r (c .results) → r < c .form .next)
 
+  -- the parameter to settle next
+  module _ (x b : ℕ) (ts : List Task) (n : ℕ) (s : Form) (h : Mid (finish x b ∷ ts) n s) where
+    pub at-top : In (v, x) (pending g s (at-work v (finish x b ∷ ts) later) b)
+    at-top = rw (h .sane .0, put-same b ((v, x) ∷ at-work v ts later b) (at-work v ts later)) (inl refl)
+
+    pub top-param : In x (s .params b)
+    top-param = pending-par g ⊥ s (h .rest .kp) (at-work v (finish x b ∷ ts) later) (h .rest .inv) v b x at-top
+
   pub looks-on : (ps : List ℕ) (ts : List Task) (n : ℕ) (s : Form) → ((p : ℕ) → In p ps → p < g .blocks) → Mid ts (length ps + n) s → Mid (map look ps ++ ts) n s
   looks-on [] ts n s lt h = let e : 0 + n ≡ n = omega arith in subst (λ (j : ℕ). Mid ts j s) e h
   looks-on (p ∷ ps) ts n s lt h =
@@ -173,12 +181,6 @@ module _ (g : Graph) (G : Sound g) (B : Bounds g) (v : ℕ) (lv : v < length (g 
     abbrev t : Form
     t = settle g b x qs s .1
 
-    pub at-top : In (v, x) (pending g s (put b ((v, x) ∷ op₂ b) op₂) b)
-    at-top = rw (h .sane .0, put-same b ((v, x) ∷ op₂ b) op₂) (inl refl)
-
-    pub top-param : In x (s .params b)
-    top-param = pending-par g ⊥ s (h .rest .kp) (put b ((v, x) ∷ op₂ b) op₂) (h .rest .inv) v b x at-top
-
     settle-now : Now g v later k (settle-top g x b ts rs s)
     settle-now = (
       record {
@@ -206,12 +208,12 @@ module _ (g : Graph) (G : Sound g) (B : Bounds g) (v : ℕ) (lv : v < length (g 
             (length-reverse (take n₂ rs) ∙ take-length n₂ (h .fits .0) rs (h .fits .1)) (λ z. absurd z) (G .nodup b)
 
         rng : Ranged g (settle g b x (reverse (take (length (g .preds b)) rs)) s .1) × (settle g b x (reverse (take (length (g .preds b)) rs)) s .0 < settle g b x (reverse (take (length (g .preds b)) rs)) s .1 .next)
-        rng = settle-ranged g s (h .rest .ranged) b x (B .shut b (h .sane .0)) (h .rest .inv .listed .pars b x top-param) (h .rest .inv .aliased .fresh (s .next) (omega arith)) qs
+        rng = settle-ranged g s (h .rest .ranged) b x (B .shut b (h .sane .0)) (h .rest .inv .listed .pars b x (top-param g v later k x b ts (length rs) s h)) (h .rest .inv .aliased .fresh (s .next) (omega arith)) qs
             (λ r i. low r (take-in n₂ rs r (reverse-in (take n₂ rs) r i)))
 
         busy : (c : ℕ) → (c ≡ b) ⊎ (c ≢ b) → (put b ((v, x) ∷ op₂ b) op₂ c ≡ []) ⊎ ((u : ℕ) × (s .entry v c ≡ some u)) → (op₂ c ≡ []) ⊎ ((u : ℕ) × (t .entry v c ≡ some u))
         busy c q (inr j) = inr (j .0, d .grow .entry v c (j .0) (j .1))
-        busy c (inl q) (inl j) = inr (x, d .grow .entry v c x (ap (s .entry v) q ∙ h .rest .inv .pend v b x at-top .0))
+        busy c (inl q) (inl j) = inr (x, d .grow .entry v c x (ap (s .entry v) q ∙ h .rest .inv .pend v b x (at-top g v later k x b ts (length rs) s h) .0))
         busy c (inr n) (inl j) = inl (sym (put-other b ((v, x) ∷ op₂ b) op₂ c n) ∙ j)
 
   pub turn-now : (ts : List Task) (rs : List ℕ) (s : Form) → Now g v later k (conf ts rs s) → Now g v later k (turn g v ts rs s)

@@ -60,6 +60,23 @@ module _ (g : Graph) (G : Sound g) (v : ℕ) where
           let f′ : left g v (turn g v (c .tasks) (c .results) (c .form)) < left g v c = subst (λ (us : List Task). left g v (turn g v us (c .results) (c .form)) < left g v (conf us (c .results) (c .form))) (sym k) f in
           below m (run-within g G v 1 a b c w) (omega (arith, l, f′))
 
+-- before settling the parameter x of b with the results rs
+pub record Settles (g : Graph) (rs : List ℕ) (s : Form) (x b : ℕ) : Type 0 where
+  pub block : b < g .blocks
+  pub closed : g .sealed b ≡ true
+  pub value : x < s .next
+  pub param : In x (s .params b)
+  pub taken : length (g .preds b) ≤ length rs
+  pub next : s .next < value-room limits
+  pub zeros : length (s .zeros) < zero-room limits
+  pub args : (p i : ℕ) → In p (g .preds b) → i < length (g .dests p) → getD (g .dests p) i 0 ≡ b → length (s .args p i) < param-room limits
+
+-- every task on the stack names what is there
+abbrev pub Named : Graph → Form → List Task → Type 0
+Named g s [] = Unit {0}
+Named g s (look p ∷ ts) = (p < g .blocks) × Named g s ts
+Named g s (finish x b ∷ ts) = (x < s .next) × (b < g .blocks) × Named g s ts
+
 -- at one moment
 module _ (g : Graph) (G : Sound g) (B : Bounds g) (v : ℕ) (lv : v < length (g .types)) (later : ℕ → List (ℕ × ℕ)) (k : ℕ) (rs : List ℕ) (s : Form) where
   -- the number that falls, at most `call-room limits`
@@ -80,23 +97,12 @@ module _ (g : Graph) (G : Sound g) (B : Bounds g) (v : ℕ) (lv : v < length (g 
       let w = waits-room g op (finishes ts k) s (h .rest) c in
       (h .sane .0, omega (arith, a .0), le-trans q (B .vars), omega (arith, w, q, B .vars))
 
-  -- before settling the parameter x of b
-  pub record Settles (x b : ℕ) : Type 0 where
-    pub block : b < g .blocks
-    pub closed : g .sealed b ≡ true
-    pub value : x < s .next
-    pub param : In x (s .params b)
-    pub taken : length (g .preds b) ≤ length rs
-    pub next : s .next < value-room limits
-    pub zeros : length (s .zeros) < zero-room limits
-    pub args : (p i : ℕ) → In p (g .preds b) → i < length (g .dests p) → getD (g .dests p) i 0 ≡ b → length (s .args p i) < param-room limits
-
-  pub finish-room : (x b : ℕ) (ts : List Task) → Moment g v later k (conf (finish x b ∷ ts) rs s) → Settles x b
+  pub finish-room : (x b : ℕ) (ts : List Task) → Moment g v later k (conf (finish x b ∷ ts) rs s) → Settles g rs s x b
   finish-room x b ts m =
       let h = m .now .0 in
       let op = at-work v ts later in
       let a = load-next s (suc (finishes ts k)) (h .rest .load) in
-      let i = top-param g G B v lv later k x b ts rs s h (m .now .1) in
+      let i = top-param g v later k x b ts (length rs) s h in
       record {
         block = B .shut b (h .sane .0);
         closed = h .sane .0;
@@ -109,16 +115,10 @@ module _ (g : Graph) (G : Sound g) (B : Bounds g) (v : ℕ) (lv : v < length (g 
             (feed-room g (put b ((v, x) ∷ op b) op) (suc (finishes ts k)) s (h .rest) b v x (op b) (h .sane .0) (put-same b ((v, x) ∷ op b) op) p j ip lt q) (B .vars);
       }
 
-  -- every task on the stack names what is there
-  abbrev pub Named : List Task → Type 0
-  Named [] = Unit {0}
-  Named (look p ∷ ts) = (p < g .blocks) × Named ts
-  Named (finish x b ∷ ts) = (x < s .next) × (b < g .blocks) × Named ts
-
   abbrev work : List Task → ℕ → List (ℕ × ℕ)
   work us = at-work v us later
 
-  all-named : (us : List Task) → Sane g us → ((x b : ℕ) → g .sealed b ≡ true → In (v, x) (work us b) → x < s .next) → Named us
+  all-named : (us : List Task) → Sane g us → ((x b : ℕ) → g .sealed b ≡ true → In (v, x) (work us b) → x < s .next) → Named g s us
   all-named [] z f = tt
   all-named (look p ∷ us) z f = (z .0, all-named us (z .1) f)
   all-named (finish x b ∷ us) z f = (
@@ -130,7 +130,7 @@ module _ (g : Graph) (G : Sound g) (B : Bounds g) (v : ℕ) (lv : v < length (g 
     ])),
   )
 
-  pub tasks-named : (ts : List Task) → Moment g v later k (conf ts rs s) → Named ts
+  pub tasks-named : (ts : List Task) → Moment g v later k (conf ts rs s) → Named g s ts
   tasks-named ts m =
-      let h = m .now .0 in
-      all-named ts (h .sane) (λ x b z i. h .rest .inv .listed .pars b x (pending-par g ⊥ s (h .rest .kp) (work ts) (h .rest .inv) v b x (rw z i)) .below)
+      let r = m .now .0 .rest in
+      all-named ts (m .now .0 .sane) (λ x b z i. r .inv .listed .pars b x (pending-par g ⊥ s (r .kp) (work ts) (r .inv) v b x (rw z i)) .below)

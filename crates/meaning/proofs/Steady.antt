@@ -1,6 +1,6 @@
 -- All that the code may rely on, in one place: between calls, at every moment of a use, and at every moment of a seal. Assumes nothing.
 use Prim.Native.Nat.{ℕ, suc, _+_, _<_}
-use mathlib.Core.Path.{_≡_, _∙_, subst}
+use mathlib.Core.Path.{_≡_, _∙_}
 use mathlib.Core.Bool.{true, false}
 use mathlib.Core.List.{List, [], _∷_, _++_}
 use lib.ListN.{length, length-append}
@@ -71,16 +71,16 @@ module _ (g : Graph) (s : Form) (h : Steady g s) where
       abbrev pub then : Form
       then = settle-pending (mark-sealed g b) b us (set-pending b [] s)
 
-      pub seal-rests : Rest (mark-sealed g b) (put b (w ∷ ws) idle) (suc (length ws)) (settle-pending (mark-sealed g b) b us (set-pending b [] s))
-      seal-rests = some-rest (mark-sealed g b) sound-then bounds-then b (put-same b true (g .sealed)) us (w ∷ ws) (set-pending b [] s)
-          (subst (λ (l : List (ℕ × ℕ)). Rest (mark-sealed g b) (put b l idle) (length l) (set-pending b [] s)) parts (mark-rest g (h .sound) (h .bounds) b lb unsealed s (h .rest)))
+      pub seal-rests : Rest g′ (put b (w ∷ ws) idle) (suc (length ws)) then
+      seal-rests = some-rest g′ sound-then bounds-then b (put-same b true (g .sealed)) us (w ∷ ws) (set-pending b [] s)
+          (rw parts at (mark-rest g (h .sound) (h .bounds) b lb unsealed s (h .rest)))
 
       pub known-then : w .0 < length (g .types)
-      known-then = seal-rests .inv .known (w .0) b (w .1) (at-head (mark-sealed g b) sound-then bounds-then b (put-same b true (g .sealed)) w ws (suc (length ws)) (settle-pending (mark-sealed g b) b us (set-pending b [] s)) seal-rests) .0
+      known-then = seal-rests .inv .known (w .0) b (w .1) (at-head g′ sound-then bounds-then b (put-same b true (g .sealed)) w ws (suc (length ws)) then seal-rests) .0
 
-      pub during-seal : (n : ℕ) → Moment (mark-sealed g b) (w .0) (put b ws idle) (length ws) (turns n (mark-sealed g b) (w .0) (conf (schedule (mark-sealed g b) (w .1) b []) [] (settle-pending (mark-sealed g b) b us (set-pending b [] s))))
-      during-seal n = moment-turn (mark-sealed g b) sound-then bounds-then (w .0) known-then (put b ws idle) (length ws) (conf (schedule (mark-sealed g b) (w .1) b []) [] (settle-pending (mark-sealed g b) b us (set-pending b [] s))) n
-          (seal-moment (mark-sealed g b) sound-then bounds-then b (put-same b true (g .sealed)) w ws (settle-pending (mark-sealed g b) b us (set-pending b [] s)) seal-rests)
+      pub during-seal : (n : ℕ) → Moment g′ (w .0) (put b ws idle) (length ws) (turns n g′ (w .0) (conf (schedule g′ (w .1) b []) [] then))
+      during-seal n = moment-turn g′ sound-then bounds-then (w .0) known-then (put b ws idle) (length ws) (conf (schedule g′ (w .1) b []) [] then) n
+          (seal-moment g′ sound-then bounds-then b (put-same b true (g .sealed)) w ws then seal-rests)
 
 -- a call more is done with each call
 after-count : (t : State) (c : Call) (r : Reply) → length (after t c r .done) ≡ suc (length (t .done))
