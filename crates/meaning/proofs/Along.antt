@@ -53,7 +53,8 @@ module _ (W : Type 0) (null : ℕ → W) (t : State) where
           more : (y : ℕ) → Set-by ms y → Set-by (x ∷ ms) y
           more y k = (k .0, λ p q. inr (k .1 p q))
 
-      ready-gives : (v x : ℕ) (r : List Act) → Told graph form b f ms us (gives v x ∷ r) → Ready ms us (put v (some x) f) (do-act W null t w (gives v x) m)
+      ready-gives : (v x : ℕ) (r : List Act) → Told graph form b f ms us (gives v x ∷ r)
+          → Ready ms us (put v (some x) f) (do-act W null t w (gives v x) m)
       ready-gives v x r told = record {
         here = h .here;
         good = λ u o e. elim (same? u v) [
@@ -82,7 +83,8 @@ module _ (W : Type 0) (null : ℕ → W) (t : State) where
       all-acts ms us f m (uses u x ∷ r) told h = all-acts ms (x ∷ us) f m r (told .1) (ready-uses w ms us f m h u x r told)
 
       -- at a use
-      at-use : (ms us : List ℕ) (f : ℕ → Option ℕ) (m : Mem W null t) (r after : List Act) (v x : ℕ) → Told graph form b f ms us (r ++ uses v x ∷ after) → Ready ms us f m
+      at-use : (ms us : List ℕ) (f : ℕ → Option ℕ) (m : Mem W null t) (r after : List Act) (v x : ℕ)
+          → Told graph form b f ms us (r ++ uses v x ∷ after) → Ready ms us f m
           → do-acts W null t w r m .val (R x) ≡ do-acts W null t w r m .var v
       at-use ms us f m [] after v x told h = rw (told .0 .2) (h .good v (told .0 .0) (told .0 .1) .0)
       at-use ms us f m (makes y ∷ r) after v x told h =
@@ -168,7 +170,8 @@ module _ (W : Type 0) (null : ℕ → W) (t : State) where
           let o = sm p declared in
           h .clean to (rw (o .2, home) at (out v (o .0) (o .1) .1)) (λ z. S .none-enters-0 p (rw z at inside)) v e q sm home
 
-      good-at : (v e : ℕ) → entry v to ≡ some e → Edge graph form params v to e → (zeros-set W null t to brought (R e) ≡ after .var v) × Set-by to (to ∷ p ∷ bs) [] (R e)
+      good-at : (v e : ℕ) → entry v to ≡ some e → Edge graph form params v to e
+          → (zeros-set W null t to brought (R e) ≡ after .var v) × Set-by to (to ∷ p ∷ bs) [] (R e)
       good-at v e q (same _ sm) =
           let o = sm p declared in
           let held = out v (o .0) (o .1) in

@@ -20,10 +20,12 @@ module _ (s : Form) where
   same-param v b x y p q = some-inj (sym (p .entry) ∙ q .entry)
 
   module _ (g : Graph) (h : Caused g s) where
-    of-param : (x b : ℕ) → x < s .next → s .info x .sort ≡ param → s .info x .home ≡ b → (v : ℕ) × (v < length (g .types)) × Causes-param s v b x
+    of-param : (x b : ℕ) → x < s .next → s .info x .sort ≡ param → s .info x .home ≡ b
+        → (v : ℕ) × (v < length (g .types)) × Causes-param s v b x
     of-param x b l p q = let k = h .param-of x l p in (k .0, k .1, record { below = l; sort = p; home = q; entry = ap (s .entry (k .0)) (sym q) ∙ k .2 })
 
-    of-zero : (z b : ℕ) → z < s .next → s .info z .sort ≡ nought → s .info z .home ≡ b → (v : ℕ) × (v < length (g .types)) × Causes-zero s v b z
+    of-zero : (z b : ℕ) → z < s .next → s .info z .sort ≡ nought → s .info z .home ≡ b
+        → (v : ℕ) × (v < length (g .types)) × Causes-zero s v b z
     of-zero z b l p q =
         let k = h .zero-of z l p in
         let c = of-param (k .0) b (k .1) (k .2) (k .3 ∙ q) in

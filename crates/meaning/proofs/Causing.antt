@@ -17,7 +17,8 @@ pub record Causing (n next : ℕ) (info : ℕ → Info) (entry : ℕ → ℕ →
   -- a parameter is what the entry of a variable records in its block
   pub param-of : (x : ℕ) → x < next → info x .sort ≡ param → (v : ℕ) × (v < n) × (entry v (info x .home) ≡ some x)
   -- a zero is what a parameter of its block is an alias of
-  pub zero-of : (z : ℕ) → z < next → info z .sort ≡ nought → (x : ℕ) × (x < next) × (info x .sort ≡ param) × (info x .home ≡ info z .home) × (target x ≡ z)
+  pub zero-of : (z : ℕ) → z < next → info z .sort ≡ nought
+      → (x : ℕ) × (x < next) × (info x .sort ≡ param) × (info x .home ≡ info z .home) × (target x ≡ z)
 
 abbrev pub Caused : Graph → Form → Type 0
 Caused g s = Causing (length (g .types)) (s .next) (s .info) (s .entry) (s .target)
@@ -28,7 +29,8 @@ module _ {n next : ℕ} {info : ℕ → Info} {entry : ℕ → ℕ → Option �
   wider-caused m l = record { param-of = λ x k q. let c = h .param-of x k q in (c .0, le-trans (c .1) l, c .2); zero-of = h .zero-of }
 
   -- more entries
-  pub entered-caused : (entry′ : ℕ → ℕ → Option ℕ) → ((v b e : ℕ) → entry v b ≡ some e → entry′ v b ≡ some e) → Causing n next info entry′ target
+  pub entered-caused : (entry′ : ℕ → ℕ → Option ℕ) → ((v b e : ℕ) → entry v b ≡ some e → entry′ v b ≡ some e)
+      → Causing n next info entry′ target
   entered-caused entry′ up = record { param-of = λ x l q. let k = h .param-of x l q in (k .0, k .1, up (k .0) (info x .home) x (k .2)); zero-of = h .zero-of }
 
   -- more aliases: a parameter whose target is a zero was one

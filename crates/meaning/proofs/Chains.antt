@@ -64,8 +64,10 @@ module _ (s : Form) (tree : Tree (s .target) (s .next)) (closed : (x : ℕ) → 
   follow-ends zero x l r = here (in-targets x l) (target-at x l ∙ r)
   follow-ends (suc n) x l r = by (eqb (s .target x) x) r (follow-ends n (s .target x) (closed x l))
     where
-      by : (z : Bool) → s .target (elim z as (λ _. ℕ) [ true ↦ x | false ↦ follow n (s .target) (s .target x) ]) ≡ (elim z as (λ _. ℕ) [ true ↦ x | false ↦ follow n (s .target) (s .target x) ])
-          → (s .target (follow n (s .target) (s .target x)) ≡ follow n (s .target) (s .target x) → Ends (targets s) (s .target x) (follow n (s .target) (s .target x)))
+      by : (z : Bool) → s .target (elim z as (λ _. ℕ) [ true ↦ x | false ↦ follow n (s .target) (s .target x) ]) ≡ (elim z as (λ _. ℕ)
+          [ true ↦ x | false ↦ follow n (s .target) (s .target x) ])
+          → (s .target (follow n (s .target) (s .target x)) ≡ follow n (s .target) (s .target x)
+          → Ends (targets s) (s .target x) (follow n (s .target) (s .target x)))
           → Ends (targets s) x (elim z as (λ _. ℕ) [ true ↦ x | false ↦ follow n (s .target) (s .target x) ])
       by true q below = here (in-targets x l) (target-at x l ∙ q)
       by false q below = on (in-targets x l) (subst (λ (k : ℕ). Ends (targets s) k (follow n (s .target) (s .target x))) (sym (target-at x l)) (below q))

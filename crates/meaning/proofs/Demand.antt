@@ -37,7 +37,8 @@ whole-tick E g s ds h = record {
 }
 
 -- a refused call
-pub refused : (E : Type 0) (g : Graph) (s : Form) (ds : List Done) (c : Call) (k : ℕ) → k ≢ 0 → Whole E g s ds → Whole E g s (ds ++ record { asked = c; code = k; number = 0 } ∷ [])
+pub refused : (E : Type 0) (g : Graph) (s : Form) (ds : List Done) (c : Call) (k : ℕ) → k ≢ 0 → Whole E g s ds
+    → Whole E g s (ds ++ record { asked = c; code = k; number = 0 } ∷ [])
 refused E g s ds c k n h = silent E g s ds h (record { asked = c; code = k; number = 0 }) (λ b. rw (eqb-diff k 0 n) refl) g s (h .kp) (h .inv) (h .sound) (λ b p i. inl i) (grow-refl s)
 
 pub after-good : (E : Type 0) (t : State) (c : Call) (h : Good E t) (r : Reply) → Fine E (t .graph) (t .form) (t .done) h c r → Good E (after t c r)
@@ -63,7 +64,8 @@ split-in d (x ∷ l) (inr i) = let k = split-in d l i in (x ∷ k .0, k .1, ap {
 abbrev pub On-time : List Done → Type 0
 On-time l = (p : ℕ) (ds es : List Done) (d e : Done) → l ≡ ds ++ d ∷ es → declares p d ≡ true → In e es → defines p e ≡ false
 
-timely : (E : Type 0) (cs : List Call) (t : State) (c : Call) (h : Good E t) → On-time (run t (c ∷ cs) .done) → Timely E (t .graph) (t .form) (t .done) h c (reply (t .graph) (t .form) (t .done) (c .x) (c .y) (c .z) (c .kind))
+timely : (E : Type 0) (cs : List Call) (t : State) (c : Call) (h : Good E t) → On-time (run t (c ∷ cs) .done)
+    → Timely E (t .graph) (t .form) (t .done) h c (reply (t .graph) (t .form) (t .done) (c .x) (c .y) (c .z) (c .kind))
 timely E cs t c h late n g s e z def-z d i dec =
     let k = split-in d (t .done) i in
     let new : Done = record { asked = c; code = 0; number = n } in

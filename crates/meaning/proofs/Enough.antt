@@ -29,13 +29,15 @@ use Rattle.meaning.proofs.Lists.{has-in, in-cons}
 
 module _ (g : Graph) (G : Sound g) where
   -- a walk that may pass one block more than there are, those seen before included
-  walk-more : (n : ℕ) (s : Form) (v : ℕ) (seen : List ℕ) (b : ℕ) → Nodup seen → ((c : ℕ) → In c seen → c < g .blocks) → b < g .blocks → g .blocks < n + length seen
+  walk-more : (n : ℕ) (s : Form) (v : ℕ) (seen : List ℕ) (b : ℕ) → Nodup seen → ((c : ℕ) → In c seen → c < g .blocks) → b < g .blocks
+      → g .blocks < n + length seen
       → walk (suc n) g s v seen b ≡ walk n g s v seen b
   walk-more zero s v seen b d lt lb l = let k = pigeon some (g .blocks) seen d (λ c i. (c, lt c i, refl)) in absurd (omega (arith, k, l))
   walk-more (suc n) s v seen b d lt lb l = by (has b seen) refl (single g b) refl (walk-more n)
     where
       by : (z : Bool) → has b seen ≡ z → (q : Option ℕ) → single g b ≡ q
-          → ((s : Form) (v : ℕ) (seen : List ℕ) (b : ℕ) → Nodup seen → ((c : ℕ) → In c seen → c < g .blocks) → b < g .blocks → g .blocks < n + length seen
+          → ((s : Form) (v : ℕ) (seen : List ℕ) (b : ℕ) → Nodup seen → ((c : ℕ) → In c seen → c < g .blocks) → b < g .blocks
+          → g .blocks < n + length seen
           → walk (suc n) g s v seen b ≡ walk n g s v seen b)
           → past (walk (suc n) g s v (b ∷ seen)) s v b z q ≡ past (walk n g s v (b ∷ seen)) s v b z q
       by true e q u below = refl
@@ -58,7 +60,8 @@ module _ (g : Graph) (G : Sound g) where
   ]
 
   -- two runs from one start that end, end alike
-  same-end : (v : ℕ) (c : Conf) (r q : Got) → Low g (c .tasks) → Goes g v c (conf [] (r .0 ∷ []) (r .1)) → Goes g v c (conf [] (q .0 ∷ []) (q .1)) → r ≡ q
+  same-end : (v : ℕ) (c : Conf) (r q : Got) → Low g (c .tasks) → Goes g v c (conf [] (r .0 ∷ []) (r .1)) → Goes g v c (conf [] (q .0 ∷ []) (q .1))
+      → r ≡ q
   same-end v c r q low to-r to-q = ap (λ (d : Conf). (getD (d .results) 0 0, d .form)) (sym (ends _ to-r refl) ∙ ends _ to-q refl)
     where
       held : ℕ

@@ -29,7 +29,8 @@ cur f (uses v x ∷ us) = cur f us
 
 -- The value e, which stands for v where b begins, is each predecessor's value at its end, or a parameter that each predecessor feeds with it. Of the
 -- graph and the form this takes what it reads: `held` is what each block records of a variable, `res` where aliases lead.
-module _ (sealed : ℕ → Bool) (preds dests : ℕ → List ℕ) (held : ℕ → ℕ → Option ℕ) (res : ℕ → ℕ) (args : ℕ → ℕ → List ℕ) (K : ℕ → List ℕ) where
+module _ (sealed : ℕ → Bool) (preds dests : ℕ → List ℕ) (held : ℕ → ℕ → Option ℕ) (res : ℕ → ℕ) (args : ℕ → ℕ → List ℕ)
+    (K : ℕ → List ℕ) where
   pub data Comes (v b e : ℕ) : Type 0 where
     same : sealed b ≡ true → ((p : ℕ) → In p (preds b) → (o : ℕ) × (held v p ≡ some o) × (res o ≡ res e)) → Comes v b e
     kept : sealed b ≡ true → res e ≡ e → In e (K b)

@@ -25,7 +25,8 @@ module _ (g : Graph) (v : ℕ) where
   left c = length (c .tasks) + calls-left g v (c .form)
 
 module _ (g : Graph) (G : Sound g) (v : ℕ) where
-  pub turn-falls : (t : Task) (ts : List Task) (rs : List ℕ) (s : Form) → Low g (t ∷ ts) → left g v (turn g v (t ∷ ts) rs s) < left g v (conf (t ∷ ts) rs s)
+  pub turn-falls : (t : Task) (ts : List Task) (rs : List ℕ) (s : Form) → Low g (t ∷ ts)
+      → left g v (turn g v (t ∷ ts) rs s) < left g v (conf (t ∷ ts) rs s)
   turn-falls (look p) ts rs s l =
       let w = visit-within g G v (length ts + calls-left g v s) (suc (length rs) + length ts + looks-left g v s) p ts rs s (l .0) (l .1) (omega arith) (omega arith) in
       omega (arith, w .calls)
@@ -60,7 +61,8 @@ module _ (g : Graph) (G : Sound g) (B : Bounds g) (v : ℕ) where
       (omega (arith, total-calls, weigh-le (λ c. suc (length (g .preds c))) v s (g .blocks)))
       (omega (arith, total, weigh-le (λ c. length (g .preds c)) v s (g .blocks)))
 
-  pub seal-within : (x b : ℕ) (s : Form) → b < g .blocks → Has (def s v b) → Within g v (call-room limits) (result-room limits) (conf (schedule g x b []) [] s)
+  pub seal-within : (x b : ℕ) (s : Form) → b < g .blocks → Has (def s v b)
+      → Within g v (call-room limits) (result-room limits) (conf (schedule g x b []) [] s)
   seal-within x b s lb q = record {
     low = low-more g (g .preds b) (finish x b ∷ []) (λ p i. G .range b p i) tt;
     calls = omega (arith, total-calls, schedule-length g x b [], weigh-has (λ c. suc (length (g .preds c))) v s b q (g .blocks) lb);

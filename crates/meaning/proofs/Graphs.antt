@@ -18,7 +18,8 @@ use Rattle.meaning.proofs.Inv.{Inv}
 
 module _ (g : Graph) (E : Type 0) (s : Form) (kp : ℕ → List ℕ) (op : ℕ → List (ℕ × ℕ)) (h : Inv g E s kp op) where
   -- 1. more blocks and variables, another branch mark or call
-  module _ (c n : ℕ) (ty : List ℕ) (br : ℕ → Bool) (more : g .blocks ≤ n) (typed : (w : ℕ) → w < length (g .types) → (w < length ty) × (getD ty w 0 ≡ getD (g .types) w 0)) where
+  module _ (c n : ℕ) (ty : List ℕ) (br : ℕ → Bool) (more : g .blocks ≤ n)
+      (typed : (w : ℕ) → w < length (g .types) → (w < length ty) × (getD ty w 0 ≡ getD (g .types) w 0)) where
     pub wider-inv : Inv (graph c n ty br (g .dests) (g .preds) (g .sealed)) E s kp op
     wider-inv = record {
       known = λ w b e q. let k = h .known w b e q in (typed w (k .0) .0, le-trans (k .1) more);

@@ -20,7 +20,8 @@ abbrev pub grown : Graph → Form → ℕ → ℕ → (ℕ → List (ℕ × ℕ)
 grown g s v c ws = with-pending (new-param g v c s) ws
 
 -- 4. a new parameter x for v on c
-module _ (g : Graph) (E : Type 0) (s : Form) (kp : ℕ → List ℕ) (op op′ : ℕ → List (ℕ × ℕ)) (h : Inv g E s kp op) (v c : ℕ) (ws : ℕ → List (ℕ × ℕ))
+module _ (g : Graph) (E : Type 0) (s : Form) (kp : ℕ → List ℕ) (op op′ : ℕ → List (ℕ × ℕ)) (h : Inv g E s kp op) (v c : ℕ)
+    (ws : ℕ → List (ℕ × ℕ))
     (blank : s .entry v c ≡ none) (lv : v < length (g .types)) (lc : c < g .blocks)
     (elsewhere : (b : ℕ) → b ≢ c → cond (g .sealed b) (op′ b) (ws b) ≡ pending g s op b)
     (there : cond (g .sealed c) (op′ c) (ws c) ≡ pending g s op c ++ (v, s .next) ∷ []) where

@@ -44,7 +44,8 @@ module _ (g : Graph) (v : ℕ) where
 
 module _ (g : Graph) (G : Sound g) (v : ℕ) where
   -- the first turn, and each look: one call fewer is on its way
-  pub visit-within : (a b p : ℕ) (ts : List Task) (rs : List ℕ) (s : Form) → p < g .blocks → Low g ts → length ts + calls-left g v s ≤ a → suc (length rs) + length ts + looks-left g v s ≤ b → Within g v a b (visit g v p ts rs s (def s v p))
+  pub visit-within : (a b p : ℕ) (ts : List Task) (rs : List ℕ) (s : Form) → p < g .blocks → Low g ts → length ts + calls-left g v s ≤ a
+      → suc (length rs) + length ts + looks-left g v s ≤ b → Within g v a b (visit g v p ts rs s (def s v p))
   visit-within a b p ts rs s lp hl hc hb = by (def s v p) refl
     where
       by : (d : Option ℕ) → def s v p ≡ d → Within g v a b (visit g v p ts rs s d)
@@ -54,7 +55,8 @@ module _ (g : Graph) (G : Sound g) (v : ℕ) where
           let y = walked g G v (suc (g .blocks)) s [] p lp e in
           past (w .passed) (w .end) (w .met) (y .low) (y .unmet)
         where
-          past : (over : List ℕ) (c : ℕ) (m : Option ℕ) → c < g .blocks → (m ≡ none → def s v c ≡ none) → Within g v a b (find g v ts rs s over c m)
+          past : (over : List ℕ) (c : ℕ) (m : Option ℕ) → c < g .blocks → (m ≡ none → def s v c ≡ none)
+              → Within g v a b (find g v ts rs s over c m)
           past over c (some x) lc un = record {
             low = hl;
             calls = omega (arith, hc, weigh-mono (λ d. suc (length (g .preds d))) v s (mark v x over s) (mark-somes v x over s) (g .blocks));

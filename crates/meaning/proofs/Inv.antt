@@ -84,7 +84,8 @@ abbrev pub pending : Graph → Form → (ℕ → List (ℕ × ℕ)) → ℕ → 
 pending g s op b = cond (g .sealed b) (op b) (s .pending b)
 
 -- the lists of parameters: kept, then pending
-pub record Listed (sealed : ℕ → Bool) (pend : ℕ → List (ℕ × ℕ)) (info : ℕ → Info) (target : ℕ → ℕ) (next : ℕ) (params kp : ℕ → List ℕ) : Type 0 where
+pub record Listed (sealed : ℕ → Bool) (pend : ℕ → List (ℕ × ℕ)) (info : ℕ → Info) (target : ℕ → ℕ) (next : ℕ)
+    (params kp : ℕ → List ℕ) : Type 0 where
   pub split : (b : ℕ) → params b ≡ kp b ++ snds (pend b)
   pub pars : (b x : ℕ) → In x (params b) → Parameter info target next b x
   pub nodup : (b : ℕ) → Nodup (params b)
@@ -92,7 +93,8 @@ pub record Listed (sealed : ℕ → Bool) (pend : ℕ → List (ℕ × ℕ)) (in
 
 -- the arguments: as many as parameters kept, where a sealed block has the predecessor; else none
 pub record Passed (sealed : ℕ → Bool) (preds dests : ℕ → List ℕ) (args : ℕ → ℕ → List ℕ) (kp : ℕ → List ℕ) : Type 0 where
-  pub fed : (p i : ℕ) → i < length (dests p) → sealed (getD (dests p) i 0) ≡ true → In p (preds (getD (dests p) i 0)) → length (args p i) ≡ length (kp (getD (dests p) i 0))
+  pub fed : (p i : ℕ) → i < length (dests p) → sealed (getD (dests p) i 0) ≡ true → In p (preds (getD (dests p) i 0))
+      → length (args p i) ≡ length (kp (getD (dests p) i 0))
   pub unfed : (p i : ℕ) → (i < length (dests p) → sealed (getD (dests p) i 0) ≡ true → In p (preds (getD (dests p) i 0)) → ⊥) → args p i ≡ []
 
 -- aliases lead to roots, and only parameters are aliases
@@ -114,7 +116,8 @@ pub record Inv (g : Graph) (E : Type 0) (s : Form) (kp : ℕ → List ℕ) (op :
 -- an edge stays, where what it names stays
 pub edge-grow : (g : Graph) (s s′ : Form) (kp kp′ : ℕ → List ℕ) → Grow s s′ → (w b e : ℕ)
     → (In e (kp b) → (s′ .target e ≡ e) × In e (kp′ b)
-    × ((p i a : ℕ) → In p (g .preds b) → i < length (g .dests p) → getD (g .dests p) i 0 ≡ b → arg-of (kp b) (s .args p i) e ≡ some a → arg-of (kp′ b) (s′ .args p i) e ≡ some a))
+    × ((p i a : ℕ) → In p (g .preds b) → i < length (g .dests p) → getD (g .dests p) i 0 ≡ b → arg-of (kp b) (s .args p i) e ≡ some a
+    → arg-of (kp′ b) (s′ .args p i) e ≡ some a))
     → Edge g s kp w b e → Edge g s′ kp′ w b e
 edge-grow g s s′ kp kp′ h w b e keep (same z f) = same z (λ p i. let o = f p i in (o .0, def-grow s s′ h w p (o .0) (o .1), h .res (o .0) e (o .2)))
 edge-grow g s s′ kp kp′ h w b e keep (kept z r x f) =
@@ -138,7 +141,8 @@ module _ (g : Graph) (E : Type 0) (s : Form) (kp : ℕ → List ℕ) (op : ℕ �
   kept-root b x i = h .listed .pars b x (kept-par b x i) .root
 
   -- 1. recording x in a sealed block whose one predecessor has it
-  module _ (v x b p : ℕ) (free : (e : ℕ) → s .entry v b ≡ some e → e ≡ x) (seal : g .sealed b ≡ true) (one : g .preds b ≡ p ∷ []) (has-it : def s v p ≡ some x)
+  module _ (v x b p : ℕ) (free : (e : ℕ) → s .entry v b ≡ some e → e ≡ x) (seal : g .sealed b ≡ true) (one : g .preds b ≡ p ∷ [])
+      (has-it : def s v p ≡ some x)
       (lv : v < length (g .types)) (lb : b < g .blocks) where
     abbrev s₁ : Form
     s₁ = mark-one v x b s
@@ -279,7 +283,8 @@ module _ (g : Graph) (E : Type 0) (s : Form) (kp : ℕ → List ℕ) (op : ℕ �
       others : (c z : ℕ) → Param s c z → z ≢ x → Param (alias b x y s) c z
       others c z r n = param-grow s s₃ c z alias-grow (put-other x y (s .target) z n ∙ r .root) r
 
-      pub alias-inv : (E → Edge g (alias b x y s) kp v b x) → (E → g .preds b ≡ [] → Nought (alias b x y s) (type-of g v) b x) → Inv g E (alias b x y s) kp op′
+      pub alias-inv : (E → Edge g (alias b x y s) kp v b x) → (E → g .preds b ≡ [] → Nought (alias b x y s) (type-of g v) b x)
+          → Inv g E (alias b x y s) kp op′
       alias-inv new new-first = record {
         known = h .known;
         edge = λ ok w c e q. elim (h .edge ok w c e q) [

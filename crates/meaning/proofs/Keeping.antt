@@ -45,13 +45,15 @@ Pairs q r (p ∷ ps) [] = ⊥
 Pairs q r (p ∷ ps) (t ∷ rs) = ((q ≡ p) × (r ≡ t)) ⊎ Pairs q r ps rs
 
 module _ (g : Graph) (b : ℕ) where
-  all-else : (ps rs : List ℕ) (a : ℕ → ℕ → List ℕ) (q i : ℕ) → (In q ps → is-dest (g .dests q) i b ≡ false) → feed-all g b ps rs a q i ≡ a q i
+  all-else : (ps rs : List ℕ) (a : ℕ → ℕ → List ℕ) (q i : ℕ) → (In q ps → is-dest (g .dests q) i b ≡ false)
+      → feed-all g b ps rs a q i ≡ a q i
   all-else [] rs a q i n = refl
   all-else (p ∷ ps) [] a q i n = refl
   all-else (p ∷ ps) (r ∷ rs) a q i n = all-else ps rs (feed p b r (g .dests p) a) q i (λ j. n (inr j)) ∙ feed-else p b r q i (g .dests p) a (λ e. rw e at (n (inl e)))
 
   -- where there is a result for each predecessor, each destination gets its predecessor's
-  all-here : (ps rs : List ℕ) (a : ℕ → ℕ → List ℕ) (q i : ℕ) → length rs ≡ length ps → Nodup ps → In q ps → is-dest (g .dests q) i b ≡ true
+  all-here : (ps rs : List ℕ) (a : ℕ → ℕ → List ℕ) (q i : ℕ) → length rs ≡ length ps → Nodup ps → In q ps
+      → is-dest (g .dests q) i b ≡ true
       → (r : ℕ) × (feed-all g b ps rs a q i ≡ a q i ++ r ∷ []) × Pairs q r ps rs
   all-here (p ∷ ps) [] a q i len n j e = absurd (omega (arith, len))
   all-here (p ∷ ps) (r ∷ rs) a q i len n (inl k) e = (
@@ -74,17 +76,21 @@ pub results-length : (v : ℕ) (s : Form) (ps rs : List ℕ) → Results v s ps 
 results-length v s [] [] h = refl
 results-length v s (p ∷ ps) (r ∷ rs) h = ap suc (results-length v s ps rs (h .1))
 
-result-at : (v : ℕ) (s : Form) (ps rs : List ℕ) (q r : ℕ) → Results v s ps rs → Pairs q r ps rs → (o : ℕ) × (def s v q ≡ some o) × (resolve s r ≡ resolve s o)
+result-at : (v : ℕ) (s : Form) (ps rs : List ℕ) (q r : ℕ) → Results v s ps rs → Pairs q r ps rs
+    → (o : ℕ) × (def s v q ≡ some o) × (resolve s r ≡ resolve s o)
 result-at v s (p ∷ ps) (t ∷ rs) q r h (inl k) = rw (k .0, k .1) (h .0)
 result-at v s (p ∷ ps) (t ∷ rs) q r h (inr k) = result-at v s ps rs q r (h .1) k
 
-pub result-of : (v : ℕ) (s : Form) (ps rs : List ℕ) (q : ℕ) → Results v s ps rs → In q ps → (r o : ℕ) × (def s v q ≡ some o) × (resolve s r ≡ resolve s o) × In r rs
+pub result-of : (v : ℕ) (s : Form) (ps rs : List ℕ) (q : ℕ) → Results v s ps rs → In q ps
+    → (r o : ℕ) × (def s v q ≡ some o) × (resolve s r ≡ resolve s o) × In r rs
 result-of v s (p ∷ ps) (r ∷ rs) q h (inl e) = (r, h .0 .0, ap (def s v) e ∙ h .0 .1, h .0 .2, inl refl)
 result-of v s (p ∷ ps) (r ∷ rs) q h (inr i) = let k = result-of v s ps rs q (h .1) i in (k .0, k .1, k .2, k .3, inr (k .4))
 
 -- 5. the parameter x of b, the first that is at work there, is kept
-module _ (g : Graph) (E : Type 0) (s : Form) (kp : ℕ → List ℕ) (op : ℕ → List (ℕ × ℕ)) (h : Inv g E s kp op) (v b x : ℕ) (ws : List (ℕ × ℕ))
-    (seal : g .sealed b ≡ true) (at : op b ≡ (v, x) ∷ ws) (rs : List ℕ) (len : length rs ≡ length (g .preds b)) (res : E → Results v s (g .preds b) rs)
+module _ (g : Graph) (E : Type 0) (s : Form) (kp : ℕ → List ℕ) (op : ℕ → List (ℕ × ℕ)) (h : Inv g E s kp op) (v b x : ℕ)
+    (ws : List (ℕ × ℕ))
+    (seal : g .sealed b ≡ true) (at : op b ≡ (v, x) ∷ ws) (rs : List ℕ) (len : length rs ≡ length (g .preds b))
+    (res : E → Results v s (g .preds b) rs)
     (nd : Nodup (g .preds b)) (some-pred : g .preds b ≡ [] → ⊥) where
   abbrev s′ : Form
   s′ = with-args s (feed-all g b (g .preds b) rs (s .args))
@@ -102,7 +108,8 @@ module _ (g : Graph) (E : Type 0) (s : Form) (kp : ℕ → List ℕ) (op : ℕ �
   kp-else c n = put-other b (kp b ++ x ∷ []) kp c n
 
   -- what a predecessor's destination got
-  took : (p i : ℕ) → In p (g .preds b) → i < length (g .dests p) → getD (g .dests p) i 0 ≡ b → (r : ℕ) × (s′ .args p i ≡ s .args p i ++ r ∷ []) × Pairs p r (g .preds b) rs
+  took : (p i : ℕ) → In p (g .preds b) → i < length (g .dests p) → getD (g .dests p) i 0 ≡ b
+      → (r : ℕ) × (s′ .args p i ≡ s .args p i ++ r ∷ []) × Pairs p r (g .preds b) rs
   took p i ip lt q = all-here g b (g .preds b) rs (s .args) p i len nd ip (dest-yes (g .dests p) i b lt q)
 
   args-else : (p i : ℕ) → getD (g .dests p) i 0 ≢ b → s′ .args p i ≡ s .args p i
@@ -125,7 +132,8 @@ module _ (g : Graph) (E : Type 0) (s : Form) (kp : ℕ → List ℕ) (op : ℕ �
 
   -- what was kept stays, with its arguments
   stays : (c e : ℕ) → In e (kp c) → (s .target e ≡ e) × In e (kp′ c)
-      × ((p i a : ℕ) → In p (g .preds c) → i < length (g .dests p) → getD (g .dests p) i 0 ≡ c → arg-of (kp c) (s .args p i) e ≡ some a → arg-of (kp′ c) (s′ .args p i) e ≡ some a)
+      × ((p i a : ℕ) → In p (g .preds c) → i < length (g .dests p) → getD (g .dests p) i 0 ≡ c → arg-of (kp c) (s .args p i) e ≡ some a
+      → arg-of (kp′ c) (s′ .args p i) e ≡ some a)
   stays c e i = elim (same? c b) [
     | inl q ↦ (
       kept-root g E s kp op h c e i,

@@ -129,7 +129,8 @@ arg-more [] L U Z e a h = absurd (some-none h refl)
 arg-more (k ∷ K) L [] Z e a h = absurd (some-none h refl)
 arg-more (k ∷ K) L (u ∷ U) Z e a h = by (eqb e k) (arg-more K L U Z e a) h
   where
-    by : (b : Bool) → (arg-of K U e ≡ some a → arg-of (K ++ L) (U ++ Z) e ≡ some a) → cond b (some u) (arg-of K U e) ≡ some a → cond b (some u) (arg-of (K ++ L) (U ++ Z) e) ≡ some a
+    by : (b : Bool) → (arg-of K U e ≡ some a → arg-of (K ++ L) (U ++ Z) e ≡ some a) → cond b (some u) (arg-of K U e) ≡ some a
+        → cond b (some u) (arg-of (K ++ L) (U ++ Z) e) ≡ some a
     by true below q = q
     by false below q = below q
 
@@ -139,7 +140,8 @@ arg-last [] (u ∷ U) e a n h = absurd (omega arith)
 arg-last (k ∷ K) [] e a n h = absurd (omega arith)
 arg-last (k ∷ K) (u ∷ U) e a n h = rw (eqb-diff e k (λ q. n (inl q))) (arg-last K U e a (λ i. n (inr i)) (omega arith))
 
-pub or-mono : (a a′ b b′ : Option ℕ) (o : ℕ) → a′ ≡ a → ((e : ℕ) → b ≡ some e → b′ ≡ some e) → orElse a b ≡ some o → orElse a′ b′ ≡ some o
+pub or-mono : (a a′ b b′ : Option ℕ) (o : ℕ) → a′ ≡ a → ((e : ℕ) → b ≡ some e → b′ ≡ some e) → orElse a b ≡ some o
+    → orElse a′ b′ ≡ some o
 or-mono (some x) a′ b b′ o p h q = ap (λ (c : Option ℕ). orElse c b′) p ∙ q
 or-mono none a′ b b′ o p h q = ap (λ (c : Option ℕ). orElse c b′) p ∙ h o q
 

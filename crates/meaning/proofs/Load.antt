@@ -20,7 +20,8 @@ use Rattle.meaning.proofs.Maps.{put-other, put-same, put₂-at}
 abbrev pub waiting : (ℕ → List (ℕ × ℕ)) → ℕ
 waiting ws = sum (λ b. length (ws b)) (limits .blocks)
 
-pub waiting-put : (ws : ℕ → List (ℕ × ℕ)) (c : ℕ) (l : List (ℕ × ℕ)) → c < limits .blocks → waiting (put c l ws) + length (ws c) ≡ waiting ws + length l
+pub waiting-put : (ws : ℕ → List (ℕ × ℕ)) (c : ℕ) (l : List (ℕ × ℕ)) → c < limits .blocks
+    → waiting (put c l ws) + length (ws c) ≡ waiting ws + length l
 waiting-put ws c l h = omega (
   arith,
   sum-change (λ b. length (put c l ws b)) (λ b. length (ws b)) c (limits .blocks) (λ b n. ap length (put-other c l ws b n)) h,
@@ -42,14 +43,16 @@ module _ (s t : Form) (up : Somes s t) (m : t .makes ≡ s .makes) where
       record { values = omega (arith, h .values, n, m, w, f); zeros = omega (arith, h .zeros, ap length z, w, f); made = omega (arith, h .made, m) }
 
   -- a new parameter for v on c
-  pub load-new : (k k′ v c : ℕ) → v < limits .variables → c < limits .blocks → def s v c ≡ none → Has (def t v c) → t .next ≡ suc (s .next) → t .zeros ≡ s .zeros
+  pub load-new : (k k′ v c : ℕ) → v < limits .variables → c < limits .blocks → def s v c ≡ none → Has (def t v c) → t .next ≡ suc (s .next)
+      → t .zeros ≡ s .zeros
       → waiting (t .pending) + k′ ≡ suc (waiting (s .pending) + k) → Load s k → Load t k′
   load-new k k′ v c lv lc lack has n z w h =
       let f = all-less s t up v c lack has lv lc in
       record { values = omega (arith, h .values, n, m, w, f); zeros = omega (arith, h .zeros, ap length z, w, f); made = omega (arith, h .made, m) }
 
   -- a parameter is settled
-  pub load-settle : (k : ℕ) → t .next ≤ suc (s .next) → length (t .zeros) ≤ suc (length (s .zeros)) → t .pending ≡ s .pending → Load s (suc k) → Load t k
+  pub load-settle : (k : ℕ) → t .next ≤ suc (s .next) → length (t .zeros) ≤ suc (length (s .zeros)) → t .pending ≡ s .pending → Load s (suc k)
+      → Load t k
   load-settle k n z p h =
       let w = ap waiting p in
       let f = all-fewer s t up in

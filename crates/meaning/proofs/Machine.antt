@@ -37,7 +37,8 @@ module _ (g : Graph) (v : ℕ) where
       let q = read-all rec (g .preds b) s in
       settle-somes g b x (q .0) (q .1) (without x (map (resolve (q .1)) (q .0))) w c (all-somes rec R (g .preds b) s w c h)
 
-  past-somes : (rec : ℕ → Form → Got) → ((b : ℕ) (s : Form) → Somes s (rec b s .1)) → (s : Form) (over : List ℕ) (c : ℕ) (m : Option ℕ) → Somes s (read-past rec g v s over c m .1)
+  past-somes : (rec : ℕ → Form → Got) → ((b : ℕ) (s : Form) → Somes s (rec b s .1)) → (s : Form) (over : List ℕ) (c : ℕ) (m : Option ℕ)
+      → Somes s (read-past rec g v s over c m .1)
   past-somes rec R s over c (some x) w b h = mark-somes v x over s w b h
   past-somes rec R s over c none w b h = by (g .sealed c)
     where
@@ -57,7 +58,8 @@ module _ (g : Graph) (v : ℕ) where
   abbrev Does : ℕ → (ℕ → Form → Got) → Type 0
   Does n rec = (b : ℕ) (s : Form) → b < g .blocks → lacks v s (g .blocks) < n → (ts : List Task) (rs : List ℕ) → Goes g v (conf (look b ∷ ts) rs s) (conf ts (rec b s .0 ∷ rs) (rec b s .1))
 
-  all-does : (n : ℕ) (rec : ℕ → Form → Got) → Does n rec → ((b : ℕ) (s : Form) → Somes s (rec b s .1)) → (ps : List ℕ) → ((p : ℕ) → In p ps → p < g .blocks) → (s : Form) → lacks v s (g .blocks) < n
+  all-does : (n : ℕ) (rec : ℕ → Form → Got) → Does n rec → ((b : ℕ) (s : Form) → Somes s (rec b s .1)) → (ps : List ℕ)
+      → ((p : ℕ) → In p ps → p < g .blocks) → (s : Form) → lacks v s (g .blocks) < n
       → (ts : List Task) (rs : List ℕ) → Goes g v (conf (map look ps ++ ts) rs s) (conf ts (reverseAux (read-all rec ps s .0) rs) (read-all rec ps s .1))
   all-does n rec D R [] lt s l ts rs = there
   all-does n rec D R (p ∷ ps) lt s l ts rs =
@@ -69,7 +71,8 @@ module _ (g : Graph) (v : ℕ) where
   all-length rec (p ∷ ps) s = ap suc (all-length rec ps (rec p s .1))
 
   -- settling takes the results from the stack
-  top : (x b : ℕ) (ts : List Task) (qs rs : List ℕ) (s : Form) → length qs ≡ length (g .preds b) → settle-top g x b ts (reverseAux qs rs) s ≡ conf ts (settle g b x qs s .0 ∷ rs) (settle g b x qs s .1)
+  top : (x b : ℕ) (ts : List Task) (qs rs : List ℕ) (s : Form) → length qs ≡ length (g .preds b)
+      → settle-top g x b ts (reverseAux qs rs) s ≡ conf ts (settle g b x qs s .0 ∷ rs) (settle g b x qs s .1)
   top x b ts qs rs s e =
       let n = length (g .preds b) in
       let len : length (reverse qs) ≡ n = length-reverse qs ∙ e in
@@ -82,14 +85,16 @@ module _ (g : Graph) (G : Sound g) (v : ℕ) where
   does zero b s lb l ts rs = absurd (not-suc-le-zero l)
   does (suc n) b s lb l ts rs = on (by (def s v b) refl (does n))
     where
-      by : (d : Option ℕ) → def s v b ≡ d → Does g v n (read n g v) → Goes g v (visit g v b ts rs s d) (conf ts (read-on (read n g v) g v b s d .0 ∷ rs) (read-on (read n g v) g v b s d .1))
+      by : (d : Option ℕ) → def s v b ≡ d → Does g v n (read n g v) → Goes g v (visit g v b ts rs s d)
+          (conf ts (read-on (read n g v) g v b s d .0 ∷ rs) (read-on (read n g v) g v b s d .1))
       by (some x) e D = there
       by none e D =
           let w = walk (suc (g .blocks)) g s v [] b in
           let y = walked g G v (suc (g .blocks)) s [] b lb e in
           past (w .passed) (w .end) (w .met) (y .low) (y .unmet)
         where
-          past : (over : List ℕ) (c : ℕ) (m : Option ℕ) → c < g .blocks → (m ≡ none → def s v c ≡ none) → Goes g v (find g v ts rs s over c m) (conf ts (read-past (read n g v) g v s over c m .0 ∷ rs) (read-past (read n g v) g v s over c m .1))
+          past : (over : List ℕ) (c : ℕ) (m : Option ℕ) → c < g .blocks → (m ≡ none → def s v c ≡ none)
+              → Goes g v (find g v ts rs s over c m) (conf ts (read-past (read n g v) g v s over c m .0 ∷ rs) (read-past (read n g v) g v s over c m .1))
           past over c (some x) lc un = there
           past over c none lc un = seal (g .sealed c)
             where
@@ -112,7 +117,8 @@ module _ (g : Graph) (G : Sound g) (v : ℕ) where
               q = read-all (read n g v) (g .preds c) s₂
 
               seal : (z : Bool) → Goes g v (open-param g v c x (before c over) ts rs (new-param g v c s) z)
-                  (conf ts (begin (read n g v) g v c x (before c over) (new-param g v c s) z .0 ∷ rs) (begin (read n g v) g v c x (before c over) (new-param g v c s) z .1))
+                  (conf ts (begin (read n g v) g v c x (before c over) (new-param g v c s) z .0 ∷ rs)
+                  (begin (read n g v) g v c x (before c over) (new-param g v c s) z .1))
               seal false = there
               seal true = goes-trans (all-does g v n (read n g v) D (read-somes g v n) (g .preds c) (λ p i. G .range c p i) s₂ fits (finish x c ∷ ts) rs)
                   (on (subst (λ (k : Conf). Goes g v k (conf ts (fill (read n g v) g c x s₂ .0 ∷ rs) (fill (read n g v) g c x s₂ .1))) (sym (top g v x c ts (q .0) rs (q .1) (all-length g v (read n g v) (g .preds c) s₂))) there))

@@ -75,7 +75,8 @@ module _ (g : Graph) (v : ℕ) (later : ℕ → List (ℕ × ℕ)) (k : ℕ) whe
     pub top-param : In x (s .params b)
     top-param = pending-par g ⊥ s (h .rest .kp) (at-work v (finish x b ∷ ts) later) (h .rest .inv) v b x at-top
 
-  pub looks-on : (ps : List ℕ) (ts : List Task) (n : ℕ) (s : Form) → ((p : ℕ) → In p ps → p < g .blocks) → Mid ts (length ps + n) s → Mid (map look ps ++ ts) n s
+  pub looks-on : (ps : List ℕ) (ts : List Task) (n : ℕ) (s : Form) → ((p : ℕ) → In p ps → p < g .blocks) → Mid ts (length ps + n) s
+      → Mid (map look ps ++ ts) n s
   looks-on [] ts n s lt h = let e : 0 + n ≡ n = omega arith in subst (λ (j : ℕ). Mid ts j s) e h
   looks-on (p ∷ ps) ts n s lt h =
       let e : suc (length ps) + n ≡ length ps + suc n = omega arith in
@@ -84,7 +85,8 @@ module _ (g : Graph) (v : ℕ) (later : ℕ → List (ℕ × ℕ)) (k : ℕ) whe
 
 module _ (g : Graph) (G : Sound g) (B : Bounds g) (v : ℕ) (lv : v < length (g .types)) (later : ℕ → List (ℕ × ℕ)) (k : ℕ) where
   -- looking at p
-  module _ (p : ℕ) (ts : List Task) (rs : List ℕ) (s : Form) (lp : p < g .blocks) (h : Mid g v later k ts (suc (length rs)) s) (low : (r : ℕ) → In r rs → r < s .next) where
+  module _ (p : ℕ) (ts : List Task) (rs : List ℕ) (s : Form) (lp : p < g .blocks) (h : Mid g v later k ts (suc (length rs)) s)
+      (low : (r : ℕ) → In r rs → r < s .next) where
     abbrev op : ℕ → List (ℕ × ℕ)
     op = at-work v ts later
 
@@ -139,7 +141,13 @@ module _ (g : Graph) (G : Sound g) (B : Bounds g) (v : ℕ) (lv : v < length (g 
           let ws = put c (s .pending c ++ (v, x) ∷ []) (s .pending) in
           let m = begun-waiting g G v lv ⊥ p s (h .rest .kp) op (h .rest .inv) over c tr (h .busy) lc lack z in
           let more = waiting-put (s .pending) c (s .pending c ++ (v, x) ∷ []) (le-trans lc (B .few)) in (
-            record { rest = set-rest ws op quiet m (finishes ts k) (omega (arith, more, length-append (s .pending c) ((v, x) ∷ []))); busy = m .busy; sane = h .sane; fits = h .fits },
+            record {
+              rest = set-rest ws op quiet m (finishes ts k)
+                  (omega (arith, more, length-append (s .pending c) ((v, x) ∷ [])));
+              busy = m .busy;
+              sane = h .sane;
+              fits = h .fits;
+            },
             in-cons x rs (omega (arith, set-next ws op quiet m)) (λ r i. omega (arith, low r i, set-next ws op quiet m)),
           )
         where
@@ -157,7 +165,8 @@ module _ (g : Graph) (G : Sound g) (B : Bounds g) (v : ℕ) (lv : v < length (g 
     pub visit-now : Now g v later k (visit g v p ts rs s (def s v p))
     visit-now = by (def s v p) refl
       where
-        past : (over : List ℕ) (c : ℕ) (m : Option ℕ) → Walked g v s p (record { passed = over; end = c; met = m }) → Now g v later k (find g v ts rs s over c m)
+        past : (over : List ℕ) (c : ℕ) (m : Option ℕ) → Walked g v s p (record { passed = over; end = c; met = m })
+            → Now g v later k (find g v ts rs s over c m)
         past over c (some x) y = met-now over c x (y .trail) (y .met x refl)
         past over c none y = open-now over c (y .trail) (y .low) (y .unmet refl) (g .sealed c) refl
 
@@ -168,7 +177,8 @@ module _ (g : Graph) (G : Sound g) (B : Bounds g) (v : ℕ) (lv : v < length (g 
             past (w .passed) (w .end) (w .met) (walked g G v (suc (g .blocks)) s [] p lp e)
 
   -- settling the parameter x of b
-  module _ (x b : ℕ) (ts : List Task) (rs : List ℕ) (s : Form) (h : Mid g v later k (finish x b ∷ ts) (length rs) s) (low : (r : ℕ) → In r rs → r < s .next) where
+  module _ (x b : ℕ) (ts : List Task) (rs : List ℕ) (s : Form) (h : Mid g v later k (finish x b ∷ ts) (length rs) s)
+      (low : (r : ℕ) → In r rs → r < s .next) where
     abbrev op₂ : ℕ → List (ℕ × ℕ)
     op₂ = at-work v ts later
 
@@ -207,11 +217,13 @@ module _ (g : Graph) (G : Sound g) (B : Bounds g) (v : ℕ) (lv : v < length (g 
         d = settled g ⊥ s (h .rest .kp) (put b ((v, x) ∷ op₂ b) op₂) (h .rest .inv) v b x (op₂ b) (h .sane .0) (put-same b ((v, x) ∷ op₂ b) op₂) qs
             (length-reverse (take n₂ rs) ∙ take-length n₂ (h .fits .0) rs (h .fits .1)) (λ z. absurd z) (G .nodup b)
 
-        rng : Ranged g (settle g b x (reverse (take (length (g .preds b)) rs)) s .1) × (settle g b x (reverse (take (length (g .preds b)) rs)) s .0 < settle g b x (reverse (take (length (g .preds b)) rs)) s .1 .next)
+        rng : Ranged g (settle g b x (reverse (take (length (g .preds b)) rs)) s .1)
+            × (settle g b x (reverse (take (length (g .preds b)) rs)) s .0 < settle g b x (reverse (take (length (g .preds b)) rs)) s .1 .next)
         rng = settle-ranged g s (h .rest .ranged) b x (B .shut b (h .sane .0)) (h .rest .inv .listed .pars b x (top-param g v later k x b ts (length rs) s h)) (h .rest .inv .aliased .fresh (s .next) (omega arith)) qs
             (λ r i. low r (take-in n₂ rs r (reverse-in (take n₂ rs) r i)))
 
-        busy : (c : ℕ) → (c ≡ b) ⊎ (c ≢ b) → (put b ((v, x) ∷ op₂ b) op₂ c ≡ []) ⊎ ((u : ℕ) × (s .entry v c ≡ some u)) → (op₂ c ≡ []) ⊎ ((u : ℕ) × (t .entry v c ≡ some u))
+        busy : (c : ℕ) → (c ≡ b) ⊎ (c ≢ b) → (put b ((v, x) ∷ op₂ b) op₂ c ≡ []) ⊎ ((u : ℕ) × (s .entry v c ≡ some u))
+            → (op₂ c ≡ []) ⊎ ((u : ℕ) × (t .entry v c ≡ some u))
         busy c q (inr j) = inr (j .0, d .grow .entry v c (j .0) (j .1))
         busy c (inl q) (inl j) = inr (x, d .grow .entry v c x (ap (s .entry v) q ∙ h .rest .inv .pend v b x (at-top g v later k x b ts (length rs) s h) .0))
         busy c (inr n) (inl j) = inl (sym (put-other b ((v, x) ∷ op₂ b) op₂ c n) ∙ j)

@@ -51,7 +51,8 @@ module _ (g : Graph) (G : Sound g) (v : ℕ) where
   goes-turns (on {c} {d} q) e a b n w l = by (c .tasks) refl n l (goes-turns q e a b)
     where
       by : (ts : List Task) → c .tasks ≡ ts → (n : ℕ) → left g v c ≤ n
-          → ((m : ℕ) → Within g v a b (turn g v (c .tasks) (c .results) (c .form)) → left g v (turn g v (c .tasks) (c .results) (c .form)) ≤ m → turns m g v (turn g v (c .tasks) (c .results) (c .form)) ≡ d)
+          → ((m : ℕ) → Within g v a b (turn g v (c .tasks) (c .results) (c .form)) → left g v (turn g v (c .tasks) (c .results) (c .form)) ≤ m
+          → turns m g v (turn g v (c .tasks) (c .results) (c .form)) ≡ d)
           → turns n g v c ≡ d
       by [] k m l below = idle-turns g v m c k ∙ sym (idle-goes g v (on q) k)
       by (t ∷ ts) k zero l below = absurd (omega (arith, l, ap length k))
@@ -78,9 +79,11 @@ Named g s (look p ∷ ts) = (p < g .blocks) × Named g s ts
 Named g s (finish x b ∷ ts) = (x < s .next) × (b < g .blocks) × Named g s ts
 
 -- at one moment
-module _ (g : Graph) (G : Sound g) (B : Bounds g) (v : ℕ) (lv : v < length (g .types)) (later : ℕ → List (ℕ × ℕ)) (k : ℕ) (rs : List ℕ) (s : Form) where
+module _ (g : Graph) (G : Sound g) (B : Bounds g) (v : ℕ) (lv : v < length (g .types)) (later : ℕ → List (ℕ × ℕ)) (k : ℕ) (rs : List ℕ)
+    (s : Form) where
   -- the number that falls, at most `call-room limits`
-  pub falls : (t : Task) (ts : List Task) → Moment g v later k (conf (t ∷ ts) rs s) → left g v (turn g v (t ∷ ts) rs s) < left g v (conf (t ∷ ts) rs s)
+  pub falls : (t : Task) (ts : List Task) → Moment g v later k (conf (t ∷ ts) rs s)
+      → left g v (turn g v (t ∷ ts) rs s) < left g v (conf (t ∷ ts) rs s)
   falls t ts m = turn-falls g G v t ts rs s (m .within .low)
 
   pub at-most : (ts : List Task) → Moment g v later k (conf ts rs s) → left g v (conf ts rs s) ≤ call-room limits

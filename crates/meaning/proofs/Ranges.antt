@@ -79,7 +79,8 @@ follow-below t m h (suc n) z l = by (eqb (t z) z) (follow-below t m h n (t z) (h
     by false k = k
 
 -- arguments come from the results
-feeds-in : (g : Graph) (b : ℕ) (ps rs : List ℕ) (us : ℕ → ℕ → List ℕ) (q i a : ℕ) → In a (feed-all g b ps rs us q i) → In a (us q i) ⊎ In a rs
+feeds-in : (g : Graph) (b : ℕ) (ps rs : List ℕ) (us : ℕ → ℕ → List ℕ) (q i a : ℕ) → In a (feed-all g b ps rs us q i)
+    → In a (us q i) ⊎ In a rs
 feeds-in g b [] rs us q i a k = inl k
 feeds-in g b (p ∷ ps) [] us q i a k = inl k
 feeds-in g b (p ∷ ps) (r ∷ rs) us q i a k = elim (feeds-in g b ps rs (feed p b r (g .dests p) us) q i a k) [
@@ -121,7 +122,8 @@ module _ (g : Graph) (s : Form) (h : Ranged g s) where
   types = length (g .types)
 
   -- one more value; t are the targets afterwards
-  pub valued-more : (new : Info) → new .home < g .blocks → new .type < type-count → (t : ℕ → ℕ) → ((x : ℕ) → x < suc (s .next) → t x < suc (s .next))
+  pub valued-more : (new : Info) → new .home < g .blocks → new .type < type-count → (t : ℕ → ℕ)
+      → ((x : ℕ) → x < suc (s .next) → t x < suc (s .next))
       → Valued (g .blocks) (put (s .next) new (s .info)) t (suc (s .next))
   valued-more new lb ty t closed = record {
     closed = closed;
@@ -147,7 +149,8 @@ module _ (g : Graph) (s : Form) (h : Ranged g s) where
   }
 
   -- the graph grows
-  pub wider-ranged : (g′ : Graph) → g .blocks ≤ g′ .blocks → length (g .types) ≤ length (g′ .types) → g .call ≤ g′ .call → ((b : ℕ) → g′ .sealed b ≡ g .sealed b) → Ranged g′ s
+  pub wider-ranged : (g′ : Graph) → g .blocks ≤ g′ .blocks → length (g .types) ≤ length (g′ .types) → g .call ≤ g′ .call
+      → ((b : ℕ) → g′ .sealed b ≡ g .sealed b) → Ranged g′ s
   wider-ranged g′ bl ty ca se = record {
     valued = record { closed = h .valued .closed; homes = λ x l. le-trans (h .valued .homes x l) bl; types = h .valued .types };
     recorded = record {
@@ -167,7 +170,8 @@ module _ (g : Graph) (s : Form) (h : Ranged g s) where
   pub place-ranged : (b : ℕ) → b < g .blocks → Ranged g (place-block b s)
   place-ranged b lb = record { valued = h .valued; recorded = h .recorded; logs = placed-logs (g .call) (g .blocks) (s .zeros) (s .placed) (h .logs) b lb; caused = h .caused; still = h .still }
 
-  pub make-ranged : (m y b : ℕ) → b < g .blocks → y < type-count → s .target (s .next) ≡ s .next → Ranged g (make made y b (place-block b (with-makes s m)))
+  pub make-ranged : (m y b : ℕ) → b < g .blocks → y < type-count → s .target (s .next) ≡ s .next
+      → Ranged g (make made y b (place-block b (with-makes s m)))
   make-ranged m y b lb ly fresh = record {
     valued = valued-more (record { sort = made; type = y; home = b }) lb ly (s .target) (closed-more fresh);
     recorded = recorded-more (suc (s .next)) (omega arith);
@@ -212,7 +216,8 @@ module _ (g : Graph) (s : Form) (h : Ranged g s) where
   })
 
   -- a new parameter for v on c, where ws waits afterwards
-  pub grown-ranged : (v c : ℕ) (ws : ℕ → List (ℕ × ℕ)) → v < length (g .types) → c < g .blocks → type-of g v < type-count → s .target (s .next) ≡ s .next
+  pub grown-ranged : (v c : ℕ) (ws : ℕ → List (ℕ × ℕ)) → v < length (g .types) → c < g .blocks → type-of g v < type-count
+      → s .target (s .next) ≡ s .next
       → Grow s (grown g s v c ws) → ((b : ℕ) → g .sealed b ≡ true → ws b ≡ []) → Ranged g (grown g s v c ws)
   grown-ranged v c ws lv lc ty fresh up quiet = record {
     valued = valued-more new lc ty (s .target) (closed-more fresh);
@@ -237,7 +242,8 @@ module _ (g : Graph) (s : Form) (h : Ranged g s) where
       more = recorded-more (suc (s .next)) (omega arith)
 
   -- settling the parameter x of b
-  module _ (b x : ℕ) (lb : b < g .blocks) (par : Param s b x) (fresh : s .target (s .next) ≡ s .next) (rs : List ℕ) (low : (r : ℕ) → In r rs → r < s .next) where
+  module _ (b x : ℕ) (lb : b < g .blocks) (par : Param s b x) (fresh : s .target (s .next) ≡ s .next) (rs : List ℕ)
+      (low : (r : ℕ) → In r rs → r < s .next) where
     abbrev Fine : Got → Type 0
     Fine r = Ranged g (r .1) × (r .0 < r .1 .next)
 
@@ -251,7 +257,12 @@ module _ (g : Graph) (s : Form) (h : Ranged g s) where
         recorded = recorded-more (suc (s .next)) (omega arith);
         logs =
             let l = placed-logs (g .call) (g .blocks) (s .zeros) (s .placed) (h .logs) b lb in
-            record { noted = λ z i. elim (in-cases z (s .zeros) ((g .call, b) ∷ []) i) [ inl j ↦ l .noted z j | inr j ↦ rw (in-one z (g .call, b) j) (omega arith, lb) ]; once = l .once; within = l .within };
+            record {
+              noted = λ z i. elim (in-cases z (s .zeros) ((g .call, b) ∷ []) i)
+                  [ inl j ↦ l .noted z j | inr j ↦ rw (in-one z (g .call, b) j) (omega arith, lb) ];
+              once = l .once;
+              within = l .within;
+            };
         caused = new-caused (aliased-caused (h .caused) x (s .next) (par .root)) new (λ q. absurd (nought-param refl q))
             (λ _. (x, par .below, par .sort, par .home, put-same x (s .next) (s .target)));
         still = h .still;

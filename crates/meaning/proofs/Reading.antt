@@ -109,7 +109,8 @@ module _ (g : Graph) (v : ℕ) where
       pub free : (c : ℕ) → def s₀ v c ≡ none → (e : ℕ) → s′ .entry v c ≡ some e → e ≡ x
 
     -- a new parameter for v on c, where ws waits, which the block b records too
-    pub record Begun (s : Form) (kp : ℕ → List ℕ) (op : ℕ → List (ℕ × ℕ)) (b c : ℕ) (ws : ℕ → List (ℕ × ℕ)) (s′ : Form) : Type 0 where
+    pub record Begun (s : Form) (kp : ℕ → List ℕ) (op : ℕ → List (ℕ × ℕ)) (b c : ℕ) (ws : ℕ → List (ℕ × ℕ))
+        (s′ : Form) : Type 0 where
       pub inv : Inv g E s′ kp op
       pub grew : Grow s (grown g s v c ws)
       pub set : Grow (grown g s v c ws) s′
@@ -126,7 +127,9 @@ module _ (g : Graph) (G : Sound g) (v : ℕ) where
       halt : Walked g v s b (stop b)
       halt = record { trail = refl; low = l; met = λ x q. absurd (some-none q refl); unmet = λ q. e }
 
-      at : (c : Bool) (q : Option ℕ) → single g b ≡ q → ((p : ℕ) → p < g .blocks → def s v p ≡ none → Walked g v s p (walk n g s v (b ∷ seen) p)) → Walked g v s b (past (walk n g s v (b ∷ seen)) s v b c q)
+      at : (c : Bool) (q : Option ℕ) → single g b ≡ q
+          → ((p : ℕ) → p < g .blocks → def s v p ≡ none → Walked g v s p (walk n g s v (b ∷ seen) p))
+          → Walked g v s b (past (walk n g s v (b ∷ seen)) s v b c q)
       at true q u below = halt
       at false none u below = halt
       at false (some p) u below = to (def s v p) refl
@@ -138,8 +141,10 @@ module _ (g : Graph) (G : Sound g) (v : ℕ) where
           to (some x) q = record { trail = (refl, e, (p, u, refl)); low = lp; met = λ y i. q ∙ i; unmet = λ i. absurd (some-none refl i) }
           to none q = let w = below p lp q in record { trail = (refl, e, (p, u, w .trail)); low = w .low; met = w .met; unmet = w .unmet }
 
-  pub filled : (E : Type 0) (n : ℕ) (rec : ℕ → Form → Got) → Reads g v E n rec → (b x : ℕ) (ws : List (ℕ × ℕ)) (s : Form) (kp : ℕ → List ℕ) (op : ℕ → List (ℕ × ℕ))
-      → g .sealed b ≡ true → op b ≡ (v, x) ∷ ws → Inv g E s kp op → Busy g v s op → lacks v s (g .blocks) < n → Settled g E s (put b ws op) x (fill rec g b x s)
+  pub filled : (E : Type 0) (n : ℕ) (rec : ℕ → Form → Got) → Reads g v E n rec
+      → (b x : ℕ) (ws : List (ℕ × ℕ)) (s : Form) (kp : ℕ → List ℕ) (op : ℕ → List (ℕ × ℕ))
+      → g .sealed b ≡ true → op b ≡ (v, x) ∷ ws → Inv g E s kp op → Busy g v s op → lacks v s (g .blocks) < n
+      → Settled g E s (put b ws op) x (fill rec g b x s)
   filled E n rec R b x ws s kp op seal at h k l =
       let all = all-read g v E n rec R (g .preds b) s kp op (λ p i. G .range b p i) h k l in
       let q = read-all rec (g .preds b) s in
@@ -147,7 +152,8 @@ module _ (g : Graph) (G : Sound g) (v : ℕ) where
       record { kp = done .kp; inv = done .inv; grow = grow-trans s (q .1) (settle g b x (q .0) (q .1) .1) (all .grow) (done .grow); alike = done .alike }
 
 module _ (g : Graph) (G : Sound g) (v : ℕ) (lv : v < length (g .types)) (E : Type 0) where
-  pub marked : (s₀ s : Form) (kp : ℕ → List ℕ) (op : ℕ → List (ℕ × ℕ)) (x e : ℕ) → Inv g E s kp op → ((w c : ℕ) → s .own w c ≡ s₀ .own w c)
+  pub marked : (s₀ s : Form) (kp : ℕ → List ℕ) (op : ℕ → List (ℕ × ℕ)) (x e : ℕ) → Inv g E s kp op
+      → ((w c : ℕ) → s .own w c ≡ s₀ .own w c)
       → ((c : ℕ) → def s₀ v c ≡ none → (u : ℕ) → s .entry v c ≡ some u → u ≡ x) → def s v e ≡ some x
       → (l : List ℕ) (b : ℕ) → Trail g v s₀ b l e → Marked g v E s₀ s kp op b x (mark v x l s)
   marked s₀ s kp op x e h own free at-end [] b tr = record { inv = h; grow = grow-refl s; here = ap (def s v) tr ∙ at-end; free = free }
@@ -172,7 +178,8 @@ module _ (g : Graph) (G : Sound g) (v : ℕ) (lv : v < length (g .types)) (E : T
       }
 
   -- after a walk from b over the blocks `over` to c
-  module _ (b : ℕ) (s : Form) (kp : ℕ → List ℕ) (op : ℕ → List (ℕ × ℕ)) (h : Inv g E s kp op) (over : List ℕ) (c : ℕ) (tr : Trail g v s b over c) where
+  module _ (b : ℕ) (s : Form) (kp : ℕ → List ℕ) (op : ℕ → List (ℕ × ℕ)) (h : Inv g E s kp op) (over : List ℕ) (c : ℕ)
+      (tr : Trail g v s b over c) where
     unmarked : (d : ℕ) → def s v d ≡ none → s .entry v d ≡ none
     unmarked d q = or-none (s .own v d) (s .entry v d) q .1
 
@@ -202,7 +209,8 @@ module _ (g : Graph) (G : Sound g) (v : ℕ) (lv : v < length (g .types)) (E : T
             ])
             at-c (before c over) b (trail-before g v s b c over tr)
 
-        begun : ((s′ : Form) → Grow s s′ → s′ .entry v c ≡ some x → Busy g v s′ op′) → Begun g v E s kp op′ b c ws (mark v x (before c over) s₁)
+        begun : ((s′ : Form) → Grow s s′ → s′ .entry v c ≡ some x → Busy g v s′ op′)
+            → Begun g v E s kp op′ b c ws (mark v x (before c over) s₁)
         begun busy =
             let m = set-out in
             let s₂ = mark v x (before c over) s₁ in
@@ -219,7 +227,8 @@ module _ (g : Graph) (G : Sound g) (v : ℕ) (lv : v < length (g .types)) (E : T
             }
 
       -- that waits
-      pub begun-waiting : g .sealed c ≡ false → Begun g v E s kp op b c (put c (s .pending c ++ (v, x) ∷ []) (s .pending)) (mark v x (before c over) (wait v c x (new-param g v c s)))
+      pub begun-waiting : g .sealed c ≡ false → Begun g v E s kp op b c (put c (s .pending c ++ (v, x) ∷ []) (s .pending))
+          (mark v x (before c over) (wait v c x (new-param g v c s)))
       begun-waiting e = begun (put c (s .pending c ++ (v, x) ∷ []) (s .pending)) op (λ d n. rw (put-other c (s .pending c ++ (v, x) ∷ []) (s .pending) d n))
           (rw e (put-same c (s .pending c ++ (v, x) ∷ []) (s .pending))) (λ s′ up _. busy-grow g v s s′ op up k)
 
@@ -234,7 +243,8 @@ module _ (g : Graph) (G : Sound g) (v : ℕ) (lv : v < length (g .types)) (E : T
           none-there : op c ≡ []
           none-there = elim (k c e) [ inl q ↦ q | inr q ↦ absurd (some-none (q .1) (unmarked c lack)) ]
 
-      by-seal : (n : ℕ) (rec : ℕ → Form → Got) → Reads g v E n rec → lacks v s (g .blocks) < suc n → (z : Bool) → g .sealed c ≡ z → Read g v E s op b (begin rec g v c x (before c over) (new-param g v c s) z)
+      by-seal : (n : ℕ) (rec : ℕ → Form → Got) → Reads g v E n rec → lacks v s (g .blocks) < suc n → (z : Bool) → g .sealed c ≡ z
+          → Read g v E s op b (begin rec g v c x (before c over) (new-param g v c s) z)
       by-seal n rec R l false e = let m = begun-waiting e in record { kp = kp; inv = m .inv; grow = m .grow; o = x; recorded = m .here; alike = refl }
       by-seal n rec R l true e =
           let m = begun-working e in
@@ -261,7 +271,8 @@ module _ (g : Graph) (G : Sound g) (v : ℕ) (lv : v < length (g .types)) (E : T
           let y = walked g G v (suc (g .blocks)) s [] b lt e in
           past R (w .passed) (w .end) (w .met) y
         where
-          past : Reads g v E n (read n g v) → (over : List ℕ) (c : ℕ) (m : Option ℕ) → Walked g v s b (record { passed = over; end = c; met = m }) → Read g v E s op b (read-past (read n g v) g v s over c m)
+          past : Reads g v E n (read n g v) → (over : List ℕ) (c : ℕ) (m : Option ℕ) → Walked g v s b (record { passed = over; end = c; met = m })
+              → Read g v E s op b (read-past (read n g v) g v s over c m)
           past R over c (some x) y =
               let m = met-marked b s kp op h over c (y .trail) x (y .met x refl) in
               record { kp = kp; inv = m .inv; grow = m .grow; o = x; recorded = m .here; alike = refl }

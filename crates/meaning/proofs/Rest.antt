@@ -25,10 +25,12 @@ use Rattle.meaning.proofs.Mid.{Now, looks-on, goes-now, Rest}
 
 module _ (g : Graph) (G : Sound g) (B : Bounds g) where
   -- the parameter at work is known
-  pub at-head : (b : ℕ) → g .sealed b ≡ true → (w : ℕ × ℕ) (ws : List (ℕ × ℕ)) (k : ℕ) (s : Form) → Rest g (put b (w ∷ ws) idle) k s → s .entry (w .0) b ≡ some (w .1)
+  pub at-head : (b : ℕ) → g .sealed b ≡ true → (w : ℕ × ℕ) (ws : List (ℕ × ℕ)) (k : ℕ) (s : Form) → Rest g (put b (w ∷ ws) idle) k s
+      → s .entry (w .0) b ≡ some (w .1)
   at-head b seal w ws k s h = h .inv .pend (w .0) b (w .1) (rw (seal, put-same b (w ∷ ws) idle) (inl refl)) .0
 
-  pub seal-start : (b : ℕ) → g .sealed b ≡ true → (w : ℕ × ℕ) (ws : List (ℕ × ℕ)) (s : Form) → Rest g (put b (w ∷ ws) idle) (suc (length ws)) s
+  pub seal-start : (b : ℕ) → g .sealed b ≡ true → (w : ℕ × ℕ) (ws : List (ℕ × ℕ)) (s : Form)
+      → Rest g (put b (w ∷ ws) idle) (suc (length ws)) s
       → Now g (w .0) (put b ws idle) (length ws) (conf (schedule g (w .1) b []) [] s)
   seal-start b seal w ws s h = (
     looks-on g (w .0) (put b ws idle) (length ws) (g .preds b) (finish (w .1) b ∷ []) 0 s (λ p i. G .range b p i) (record {
@@ -48,25 +50,29 @@ module _ (g : Graph) (G : Sound g) (B : Bounds g) where
 
   -- a use
   pub read-rest : (v : ℕ) (lv : v < length (g .types)) (b : ℕ) (s : Form) → b < g .blocks → Rest g idle 0 s
-      → Rest g idle 0 (read (depth g) g v b s .1) × (read (depth g) g v b s .0 < read (depth g) g v b s .1 .next) × (s .next ≤ read (depth g) g v b s .1 .next)
+      → Rest g idle 0 (read (depth g) g v b s .1) × (read (depth g) g v b s .0 < read (depth g) g v b s .1 .next)
+      × (s .next ≤ read (depth g) g v b s .1 .next)
   read-rest v lv b s lb h =
       let e = goes-now g G B v lv idle 0 (does g G v (depth g) b s lb (shallow v s g) [] []) (record { rest = h; busy = λ c z. inl refl; sane = (lb, tt); fits = tt }, λ r i. absurd i) in
       (e .0 .rest, e .1 _ (inl refl), reads g G v lv ⊥ (depth g) b s (h .kp) idle lb (h .inv) (λ c z. inl refl) (shallow v s g) .grow .more)
 
   -- the first pending variable
-  pub next-rest : (b : ℕ) → g .sealed b ≡ true → (w : ℕ × ℕ) (ws : List (ℕ × ℕ)) (s : Form) → Rest g (put b (w ∷ ws) idle) (suc (length ws)) s
+  pub next-rest : (b : ℕ) → g .sealed b ≡ true → (w : ℕ × ℕ) (ws : List (ℕ × ℕ)) (s : Form)
+      → Rest g (put b (w ∷ ws) idle) (suc (length ws)) s
       → Rest g (put b ws idle) (length ws) (fill (read (depth g) g (w .0)) g b (w .1) s .1)
   next-rest b seal w ws s h =
       let lv = h .inv .known (w .0) b (w .1) (at-head b seal w ws (suc (length ws)) s h) .0 in
       goes-now g G B (w .0) lv (put b ws idle) (length ws) (fills g G (w .0) (depth g) b (w .1) s (shallow (w .0) s g) [] []) (seal-start b seal w ws s h) .0 .rest
 
   -- some of the pending variables, where others are left
-  pub some-rest : (b : ℕ) → g .sealed b ≡ true → (us ws : List (ℕ × ℕ)) (s : Form) → Rest g (put b (us ++ ws) idle) (length (us ++ ws)) s → Rest g (put b ws idle) (length ws) (settle-pending g b us s)
+  pub some-rest : (b : ℕ) → g .sealed b ≡ true → (us ws : List (ℕ × ℕ)) (s : Form) → Rest g (put b (us ++ ws) idle) (length (us ++ ws)) s
+      → Rest g (put b ws idle) (length ws) (settle-pending g b us s)
   some-rest b seal [] ws s h = h
   some-rest b seal (w ∷ us) ws s h = some-rest b seal us ws (fill (read (depth g) g (w .0)) g b (w .1) s .1) (next-rest b seal w (us ++ ws) s h)
 
   -- all of them
-  pub pending-rest : (b : ℕ) → g .sealed b ≡ true → (ws : List (ℕ × ℕ)) (s : Form) → Rest g (put b ws idle) (length ws) s → Rest g idle 0 (settle-pending g b ws s)
+  pub pending-rest : (b : ℕ) → g .sealed b ≡ true → (ws : List (ℕ × ℕ)) (s : Form) → Rest g (put b ws idle) (length ws) s
+      → Rest g idle 0 (settle-pending g b ws s)
   pending-rest b seal [] s h = subst (λ (f : ℕ → List (ℕ × ℕ)). Rest g f 0 s) (put-id b idle) h
   pending-rest b seal (w ∷ ws) s h = pending-rest b seal ws (fill (read (depth g) g (w .0)) g b (w .1) s .1) (next-rest b seal w ws s h)
 
@@ -119,13 +125,16 @@ pub record All-rest (n k : ℕ) (r : Graph × Form) : Type 0 where
   pub rest : Rest (r .0) idle 0 (r .1)
   pub more : n ≤ r .1 .next
 
-pub each-rest : (bs : List ℕ) (g : Graph) (s : Form) → ((b : ℕ) → In b bs → b < g .blocks) → Sound g → Bounds g → Rest g idle 0 s → All-rest (s .next) (g .call) (seal-each bs g s)
+pub each-rest : (bs : List ℕ) (g : Graph) (s : Form) → ((b : ℕ) → In b bs → b < g .blocks) → Sound g → Bounds g → Rest g idle 0 s
+    → All-rest (s .next) (g .call) (seal-each bs g s)
 each-rest [] g s lt G B h = record { calls = refl; sound = G; bounds = B; rest = h; more = omega arith }
 each-rest (b ∷ bs) g s lt G B h = by (g .sealed b) refl (each-rest bs g s (λ c i. lt c (inr i)) G B h)
     (λ e. each-rest bs (mark-sealed g b) (seal-form g s b) (λ c i. lt c (inr i)) G (bounds-sealed g G B b (lt b (inl refl)) e) (seal-rest g G B b (lt b (inl refl)) e s h .0))
   where
-    by : (z : Bool) → g .sealed b ≡ z → All-rest (s .next) (g .call) (seal-each bs g s) → (g .sealed b ≡ false → All-rest (seal-form g s b .next) (g .call) (seal-each bs (mark-sealed g b) (seal-form g s b)))
-        → All-rest (s .next) (g .call) (elim z as (λ _. Graph × Form) [ true ↦ seal-each bs g s | false ↦ seal-each bs (mark-sealed g b) (seal-form g s b) ])
+    by : (z : Bool) → g .sealed b ≡ z → All-rest (s .next) (g .call) (seal-each bs g s)
+        → (g .sealed b ≡ false → All-rest (seal-form g s b .next) (g .call) (seal-each bs (mark-sealed g b) (seal-form g s b)))
+        → All-rest (s .next) (g .call)
+        (elim z as (λ _. Graph × Form) [ true ↦ seal-each bs g s | false ↦ seal-each bs (mark-sealed g b) (seal-form g s b) ])
     by true e was go-on = was
     by false e was go-on = let k = go-on e in record { calls = k .calls; sound = k .sound; bounds = k .bounds; rest = k .rest; more = le-trans (seal-rest g G B b (lt b (inl refl)) e s h .1) (k .more) }
 

@@ -89,7 +89,8 @@ module _ (g : Graph) (op : ℕ → List (ℕ × ℕ)) (k : ℕ) (s : Form) (r : 
       ]
 
   -- before the arguments of a parameter that is kept
-  pub feed-room : (b v x : ℕ) (ws : List (ℕ × ℕ)) → g .sealed b ≡ true → op b ≡ (v, x) ∷ ws → (p i : ℕ) → In p (g .preds b) → i < length (g .dests p)
+  pub feed-room : (b v x : ℕ) (ws : List (ℕ × ℕ)) → g .sealed b ≡ true → op b ≡ (v, x) ∷ ws → (p i : ℕ) → In p (g .preds b)
+      → i < length (g .dests p)
       → getD (g .dests p) i 0 ≡ b → suc (length (s .args p i)) ≤ length (g .types)
   feed-room b v x ws seal at p i ip lt q =
       let k : pending g s op b ≡ (v, x) ∷ ws = rw seal at in
@@ -140,7 +141,8 @@ pub record Moment (g : Graph) (v : ℕ) (later : ℕ → List (ℕ × ℕ)) (k :
   pub within : Within g v (call-room limits) (result-room limits) c
 
 module _ (g : Graph) (G : Sound g) (B : Bounds g) where
-  moment : (v : ℕ) (later : ℕ → List (ℕ × ℕ)) (k : ℕ) (c : Conf) → Now g v later k c → Within g v (call-room limits) (result-room limits) c → Moment g v later k c
+  moment : (v : ℕ) (later : ℕ → List (ℕ × ℕ)) (k : ℕ) (c : Conf) → Now g v later k c → Within g v (call-room limits) (result-room limits) c
+      → Moment g v later k c
   moment v later k c h w = record {
     now = h;
     rooms = rooms-of g G B (at-work v (c .tasks) later) (finishes (c .tasks) k) (c .form) (h .0 .rest);
@@ -150,17 +152,20 @@ module _ (g : Graph) (G : Sound g) (B : Bounds g) where
     within = w;
   }
 
-  pub moment-turn : (v : ℕ) (lv : v < length (g .types)) (later : ℕ → List (ℕ × ℕ)) (k : ℕ) (c : Conf) (n : ℕ) → Moment g v later k c → Moment g v later k (turns n g v c)
+  pub moment-turn : (v : ℕ) (lv : v < length (g .types)) (later : ℕ → List (ℕ × ℕ)) (k : ℕ) (c : Conf) (n : ℕ) → Moment g v later k c
+      → Moment g v later k (turns n g v c)
   moment-turn v lv later k c n m = moment v later k (turns n g v c) (turns-now g G B v lv later k n c (m .now)) (run-within g G v n (call-room limits) (result-room limits) c (m .within))
 
   -- settling the first of the pending variables of b
-  pub seal-moment : (b : ℕ) → g .sealed b ≡ true → (w : ℕ × ℕ) (ws : List (ℕ × ℕ)) (s : Form) → Rest g (put b (w ∷ ws) idle) (suc (length ws)) s
+  pub seal-moment : (b : ℕ) → g .sealed b ≡ true → (w : ℕ × ℕ) (ws : List (ℕ × ℕ)) (s : Form)
+      → Rest g (put b (w ∷ ws) idle) (suc (length ws)) s
       → Moment g (w .0) (put b ws idle) (length ws) (conf (schedule g (w .1) b []) [] s)
   seal-moment b seal w ws s h = moment (w .0) (put b ws idle) (length ws) (conf (schedule g (w .1) b []) [] s) (seal-start g G B b seal w ws s h)
       (seal-within g G B (w .0) (w .1) b s (B .shut b seal) (or-has (s .own (w .0) b) (w .1) (at-head g G B b seal w ws (suc (length ws)) s h)))
 
   -- a use in b, from its first visit on
-  pub use-moment : (v : ℕ) (lv : v < length (g .types)) (b : ℕ) (s : Form) → b < g .blocks → Rest g idle 0 s → Moment g v idle 0 (visit g v b [] [] s (def s v b))
+  pub use-moment : (v : ℕ) (lv : v < length (g .types)) (b : ℕ) (s : Form) → b < g .blocks → Rest g idle 0 s
+      → Moment g v idle 0 (visit g v b [] [] s (def s v b))
   use-moment v lv b s lb h = moment v idle 0 (visit g v b [] [] s (def s v b))
       (visit-now g G B v lv idle 0 b [] [] s lb (record { rest = h; busy = λ c z. inl refl; sane = tt; fits = tt }) (λ r i. absurd i))
       (use-within g G B v b s lb)

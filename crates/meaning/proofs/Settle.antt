@@ -30,7 +30,8 @@ all-same y (u ∷ ys) e z (inr (inr i)) = all-same y ys (and-both (eqb y u) (eve
 abbrev relog : List (ℕ × ℕ) → List ℕ → ℕ → Form → Form
 relog z l m s = with-zeros (with-placed (with-makes s m) l) z
 
-pub relog-inv : (g : Graph) (E : Type 0) (z : List (ℕ × ℕ)) (l : List ℕ) (m : ℕ) (s : Form) (kp : ℕ → List ℕ) (op : ℕ → List (ℕ × ℕ)) → Inv g E s kp op → Inv g E (relog z l m s) kp op
+pub relog-inv : (g : Graph) (E : Type 0) (z : List (ℕ × ℕ)) (l : List ℕ) (m : ℕ) (s : Form) (kp : ℕ → List ℕ) (op : ℕ → List (ℕ × ℕ))
+    → Inv g E s kp op → Inv g E (relog z l m s) kp op
 relog-inv g E z l m s kp op h =
     record { known = h .known; edge = h .edge; first = h .first; pend = h .pend; listed = h .listed; passed = h .passed; aliased = h .aliased }
 
@@ -42,7 +43,8 @@ module _ (g : Graph) (E : Type 0) where
     pub alike : resolve (r .1) (r .0) ≡ resolve (r .1) x
 
   module _ (s : Form) (kp : ℕ → List ℕ) (op : ℕ → List (ℕ × ℕ)) (h : Inv g E s kp op) (v b x : ℕ) (ws : List (ℕ × ℕ))
-      (seal : g .sealed b ≡ true) (at : op b ≡ (v, x) ∷ ws) (rs : List ℕ) (len : length rs ≡ length (g .preds b)) (res : E → Results v s (g .preds b) rs) (nd : Nodup (g .preds b)) where
+      (seal : g .sealed b ≡ true) (at : op b ≡ (v, x) ∷ ws) (rs : List ℕ) (len : length rs ≡ length (g .preds b))
+      (res : E → Results v s (g .preds b) rs) (nd : Nodup (g .preds b)) where
     x-is : Param s b x
     x-is = x-par g E s kp op h v b x ws seal at
 
@@ -109,7 +111,8 @@ module _ (g : Graph) (E : Type 0) where
         z-info = ap (s₃ .info) x-now ∙ put-same (s .next) new (s .info)
 
     -- one distinct
-    one-case : (y : ℕ) → s .target y ≡ y → y ≢ x → (g .preds b ≡ [] → ⊥) → ((r : ℕ) → In r rs → (resolve s r ≡ x) ⊎ (resolve s r ≡ y)) → Settled s (put b ws op) x (y, alias b x y s)
+    one-case : (y : ℕ) → s .target y ≡ y → y ≢ x → (g .preds b ≡ [] → ⊥)
+        → ((r : ℕ) → In r rs → (resolve s r ≡ x) ⊎ (resolve s r ≡ y)) → Settled s (put b ws op) x (y, alias b x y s)
     one-case y ry d some-pred all = record {
       kp = kp;
       inv = alias-inv g E s kp op h v b x ws seal at y ry d
@@ -165,7 +168,8 @@ module _ (g : Graph) (E : Type 0) where
         y-root : s .target y ≡ y
         y-root = let k = map-in (resolve s) rs y (found .0) in ap (s .target) (k .2) ∙ root-is (s .target) (s .next) (k .0) (h .aliased .tree) ∙ sym (k .2)
 
-        by : (c : Bool) → every (eqb y) ys ≡ c → Settled s (put b ws op) x (cond c (y, alias b x y s) (x, with-args s (feed-all g b (g .preds b) rs (s .args))))
+        by : (c : Bool) → every (eqb y) ys ≡ c
+            → Settled s (put b ws op) x (cond c (y, alias b x y s) (x, with-args s (feed-all g b (g .preds b) rs (s .args))))
         by true q = one-case y y-root (found .1) some-pred (λ r i. elim (result-is r i) [ inl u ↦ inl u | inr j ↦ inr (all-same y ys q (resolve s r) (rw e at j)) ])
         by false q = more-case some-pred
 

@@ -64,7 +64,8 @@ stored-of g G B op k s r = let h = r .inv in let R = r .ranged in record {
 pub stored : (cs : List Call) → Stored (session cs .graph) (session cs .form)
 stored cs = let h = sure cs in stored-of (session cs .graph) (h .whole .sound) (h .safe .bounds) idle 0 (session cs .form) (resting (session cs) h)
 
-pub stored-now : (g : Graph) → Sound g → Bounds g → (v : ℕ) (later : ℕ → List (ℕ × ℕ)) (k : ℕ) (c : Conf) → Moment g v later k c → Stored g (c .form)
+pub stored-now : (g : Graph) → Sound g → Bounds g → (v : ℕ) (later : ℕ → List (ℕ × ℕ)) (k : ℕ) (c : Conf) → Moment g v later k c
+    → Stored g (c .form)
 stored-now g G B v later k c m = stored-of g G B (at-work v (c .tasks) later) (finishes (c .tasks) k) (c .form) (m .now .0 .rest)
 
 -- A walk passes no block twice, so at most as many as there are.
@@ -81,7 +82,8 @@ module _ (g : Graph) (s : Form) (v : ℕ) where
   walk-fresh zero seen b = record { unseen = λ c i. absurd i; nodup = tt }
   walk-fresh (suc n) seen b = at (has b seen) refl (single g b) (λ p. walk-fresh n (b ∷ seen) p)
     where
-      at : (z : Bool) → has b seen ≡ z → (q : Option ℕ) → ((p : ℕ) → Fresh (b ∷ seen) (walk n g s v (b ∷ seen) p)) → Fresh seen (past (walk n g s v (b ∷ seen)) s v b z q)
+      at : (z : Bool) → has b seen ≡ z → (q : Option ℕ) → ((p : ℕ) → Fresh (b ∷ seen) (walk n g s v (b ∷ seen) p))
+          → Fresh seen (past (walk n g s v (b ∷ seen)) s v b z q)
       at true e q below = record { unseen = λ c i. absurd i; nodup = tt }
       at false e none below = record { unseen = λ c i. absurd i; nodup = tt }
       at false e (some p) below = to (def s v p)
@@ -104,7 +106,9 @@ module _ (g : Graph) (G : Sound g) (v : ℕ) (s : Form) where
   trail-low (d ∷ l) b e lb t c (inl q) = (subst (λ (j : ℕ). j < g .blocks) (t .0 ∙ sym q) lb, ap (def s v) q ∙ t .1)
   trail-low (d ∷ l) b e lb t c (inr i) = trail-low l (t .2 .0) e (G .range d (t .2 .0) (subst (λ (k : List ℕ). In (t .2 .0) k) (sym (only-is (g .sealed d) (g .preds d) (t .2 .0) (t .2 .1) .1)) (inl refl))) (t .2 .2) c i
 
-  pub walk-room : (b : ℕ) → b < g .blocks → def s v b ≡ none → (n : ℕ) → (length (walk n g s v [] b .passed) ≤ g .blocks) × ((c : ℕ) → In c (walk n g s v [] b .passed) → (c < g .blocks) × (def s v c ≡ none)) × (walk n g s v [] b .end < g .blocks)
+  pub walk-room : (b : ℕ) → b < g .blocks → def s v b ≡ none → (n : ℕ)
+      → (length (walk n g s v [] b .passed) ≤ g .blocks) × ((c : ℕ) → In c (walk n g s v [] b .passed) → (c < g .blocks) × (def s v c ≡ none))
+      × (walk n g s v [] b .end < g .blocks)
   walk-room b lb e n =
       let w = walk n g s v [] b in
       let y = walked g G v n s [] b lb e in

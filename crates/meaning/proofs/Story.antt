@@ -40,7 +40,8 @@ under-put f f′ v x h w o e = elim (same? w v) [
   | inr n ↦ put-other v (some x) f′ w n ∙ h w o (sym (put-other v (some x) f w n) ∙ e)
 ]
 
-pub tells-mono : (s s′ : Form) → Keeps s s′ → (b : ℕ) (f f′ : ℕ → Option ℕ) (ms : List ℕ) → Under f f′ → (r : List Act) → Tells s b f ms r → Tells s′ b f′ ms r
+pub tells-mono : (s s′ : Form) → Keeps s s′ → (b : ℕ) (f f′ : ℕ → Option ℕ) (ms : List ℕ) → Under f f′ → (r : List Act)
+    → Tells s b f ms r → Tells s′ b f′ ms r
 tells-mono s s′ h b f f′ ms u [] k = tt
 tells-mono s s′ h b f f′ ms u (makes x ∷ r) k =
     let i = h .info x (k .1) in
@@ -49,8 +50,10 @@ tells-mono s s′ h b f f′ ms u (gives v x ∷ r) k = tells-mono s s′ h b (p
 tells-mono s s′ h b f f′ ms u (uses v x ∷ r) k = ((k .0 .0, u v (k .0 .0) (k .0 .1), h .res x (k .0 .0) (k .0 .2)), tells-mono s s′ h b f f′ ms u r (k .1))
 
 -- one more act
-pub tells-makes : (s s′ : Form) → Keeps s s′ → (b : ℕ) (f : ℕ → Option ℕ) (ms : List ℕ) → ((y : ℕ) → In y ms → y < s .next) → s .next < s′ .next
-    → s′ .info (s .next) .home ≡ b → s′ .info (s .next) .sort ≡ made → (r : List Act) → Tells s b f ms r → Tells s′ b f ms (r ++ makes (s .next) ∷ [])
+pub tells-makes : (s s′ : Form) → Keeps s s′ → (b : ℕ) (f : ℕ → Option ℕ) (ms : List ℕ) → ((y : ℕ) → In y ms → y < s .next)
+    → s .next < s′ .next
+    → s′ .info (s .next) .home ≡ b → s′ .info (s .next) .sort ≡ made → (r : List Act) → Tells s b f ms r
+    → Tells s′ b f ms (r ++ makes (s .next) ∷ [])
 tells-makes s s′ h b f ms low more home sort [] k = (λ i. omega (arith, low (s .next) i), more, home, sort, tt)
 tells-makes s s′ h b f ms low more home sort (makes x ∷ r) k =
     let i = h .info x (k .1) in
@@ -62,13 +65,15 @@ tells-makes s s′ h b f ms low more home sort (makes x ∷ r) k =
 tells-makes s s′ h b f ms low more home sort (gives v x ∷ r) k = tells-makes s s′ h b (put v (some x) f) ms low more home sort r k
 tells-makes s s′ h b f ms low more home sort (uses v x ∷ r) k = ((k .0 .0, k .0 .1, h .res x (k .0 .0) (k .0 .2)), tells-makes s s′ h b f ms low more home sort r (k .1))
 
-pub tells-gives : (s : Form) (b : ℕ) (f : ℕ → Option ℕ) (ms : List ℕ) (v x : ℕ) (r : List Act) → Tells s b f ms r → Tells s b f ms (r ++ gives v x ∷ [])
+pub tells-gives : (s : Form) (b : ℕ) (f : ℕ → Option ℕ) (ms : List ℕ) (v x : ℕ) (r : List Act) → Tells s b f ms r
+    → Tells s b f ms (r ++ gives v x ∷ [])
 tells-gives s b f ms v x [] k = tt
 tells-gives s b f ms v x (makes y ∷ r) k = (k .0, k .1, k .2, k .3, tells-gives s b f (y ∷ ms) v x r (k .4))
 tells-gives s b f ms v x (gives w y ∷ r) k = tells-gives s b (put w (some y) f) ms v x r k
 tells-gives s b f ms v x (uses w y ∷ r) k = (k .0, tells-gives s b f ms v x r (k .1))
 
-pub tells-uses : (s : Form) (b : ℕ) (f : ℕ → Option ℕ) (ms : List ℕ) (v x : ℕ) (r : List Act) → (o : ℕ) × (cur f r v ≡ some o) × (resolve s x ≡ resolve s o) → Tells s b f ms r → Tells s b f ms (r ++ uses v x ∷ [])
+pub tells-uses : (s : Form) (b : ℕ) (f : ℕ → Option ℕ) (ms : List ℕ) (v x : ℕ) (r : List Act)
+    → (o : ℕ) × (cur f r v ≡ some o) × (resolve s x ≡ resolve s o) → Tells s b f ms r → Tells s b f ms (r ++ uses v x ∷ [])
 tells-uses s b f ms v x [] o k = (o, tt)
 tells-uses s b f ms v x (makes y ∷ r) o k = (k .0, k .1, k .2, k .3, tells-uses s b f (y ∷ ms) v x r o (k .4))
 tells-uses s b f ms v x (gives w y ∷ r) o k = tells-uses s b (put w (some y) f) ms v x r o k
@@ -123,7 +128,8 @@ apart e n = n (ap act-num e)
 
 module _ (g : Graph) (s : Form) (root : (x : ℕ) → s .info x .sort ≡ made → resolve s x ≡ x) (b : ℕ) (all : List Act)
     (own : (v x : ℕ) (q r : List Act) → all ≡ q ++ gives v x ∷ r → In (makes x) q ⊎ ((w : ℕ) × In (uses w x) q)) where
-  pub told-all : (f : ℕ → Option ℕ) (ms us : List ℕ) (pre r : List Act) → all ≡ pre ++ r → Made-in pre ms → Used-in pre us → Tells s b f ms r → Told g s b f ms us r
+  pub told-all : (f : ℕ → Option ℕ) (ms us : List ℕ) (pre r : List Act) → all ≡ pre ++ r → Made-in pre ms → Used-in pre us → Tells s b f ms r
+      → Told g s b f ms us r
   unfolding act-num
   told-all f ms us pre [] e m u k = tt
   told-all f ms us pre (makes x ∷ r) e m u k = (

@@ -121,5 +121,6 @@ places f n (x ∷ l) d h =
     mono (some y) = bit-mono (has y l) (has y (x ∷ l)) (λ e. has-in y (x ∷ l) (inr (in-has y l e)))
 
 -- so it is no longer than n
-pub pigeon : (f : ℕ → Option ℕ) (n : ℕ) (l : List ℕ) → Nodup l → ((x : ℕ) → In x l → (w : ℕ) × (w < n) × (f w ≡ some x)) → length l ≤ n
+pub pigeon : (f : ℕ → Option ℕ) (n : ℕ) (l : List ℕ) → Nodup l → ((x : ℕ) → In x l → (w : ℕ) × (w < n) × (f w ≡ some x))
+    → length l ≤ n
 pigeon f n l d h = omega (arith, places f n l d h, sum-most 1 (λ w. bit (named l (f w))) n (λ w _. bit-most (named l (f w))))

@@ -35,7 +35,8 @@ getD-last [] y = refl
 getD-last (x ∷ l) y = getD-last l y
 
 -- the value that an accepted use answered
-answered-last : (ds : List Done) (d : Done) (i x : ℕ) → answered (ds ++ d ∷ []) i ≡ some x → (answered ds i ≡ some x) ⊎ ((eqb (d .asked .kind) 6 && eqb (d .code) 0 ≡ true) × (d .number ≡ x))
+answered-last : (ds : List Done) (d : Done) (i x : ℕ) → answered (ds ++ d ∷ []) i ≡ some x
+    → (answered ds i ≡ some x) ⊎ ((eqb (d .asked .kind) 6 && eqb (d .code) 0 ≡ true) × (d .number ≡ x))
 answered-last [] d zero x q = by (eqb (d .asked .kind) 6 && eqb (d .code) 0) q
   where
     by : (z : Bool) → cond z (some (d .number)) none ≡ some x → (_≡_ {A = Option ℕ} none (some x)) ⊎ ((z ≡ true) × (d .number ≡ x))
@@ -81,7 +82,8 @@ module _ (g : Graph) (s : Form) (ds : List Done) (w : Whole ⊥ g s ds) (h : Saf
     nothing : (n : ℕ) → Keep (ok n g s)
     nothing n = record { safe = h; more = omega arith; answer = λ e. absurd (other e); calls = refl }
 
-    keep : (n : ℕ) (g′ : Graph) (s′ : Form) → g′ .call ≡ g .call → Bounds g′ → Ranged g′ s′ → Load s′ 0 → s .next ≤ s′ .next → Keep (ok n g′ s′)
+    keep : (n : ℕ) (g′ : Graph) (s′ : Form) → g′ .call ≡ g .call → Bounds g′ → Ranged g′ s′ → Load s′ 0 → s .next ≤ s′ .next
+        → Keep (ok n g′ s′)
     keep n g′ s′ q b r l up = record { safe = record { bounds = b; ranged = r; load = l }; more = up; answer = λ e. absurd (other e); calls = q }
 
     keep-block : (x : ℕ) → Keep (declare-block g s x)
@@ -253,7 +255,8 @@ tick-safe : (g : Graph) (s : Form) → Safe g s → Safe (tick g) s
 tick-safe g s h = record { bounds = h .bounds; ranged = wider-ranged g s (h .ranged) (tick g) (omega arith) (omega arith) (omega arith) (λ b. refl); load = h .load }
 
 module _ (t : State) (c : Call) (h : Sure t) where
-  after-sure : (r : Reply) → Good ⊥ (after t c r) → Fine ⊥ (t .graph) (t .form) (t .done) (h .whole) c r → Keep (t .graph) (t .form) (t .done) (h .whole) (h .safe) c r → Sure (after t c r)
+  after-sure : (r : Reply) → Good ⊥ (after t c r) → Fine ⊥ (t .graph) (t .form) (t .done) (h .whole) c r
+      → Keep (t .graph) (t .form) (t .done) (h .whole) (h .safe) c r → Sure (after t c r)
   after-sure (no k) w n f = record {
     whole = w;
     safe = tick-safe (t .graph) (t .form) (h .safe);

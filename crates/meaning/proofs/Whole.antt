@@ -46,7 +46,8 @@ module _ (E : Type 0) (g : Graph) (s : Form) (ds : List Done) (h : Whole E g s d
   same-acts : (b : ℕ) → acts b (ds ++ d ∷ []) ≡ acts b ds
   same-acts b = acts-snoc b ds d ∙ ap (λ (l : List Act). acts b ds ++ l) (quiet b) ∙ append-nil (acts b ds)
 
-  pub silent : (g′ : Graph) (s′ : Form) (kp′ : ℕ → List ℕ) → Inv g′ E s′ kp′ idle → Sound g′ → ((b p : ℕ) → In p (g′ .preds b) → In p (g .preds b) ⊎ (declares p d ≡ true)) → Grow s s′ → Whole E g′ s′ (ds ++ d ∷ [])
+  pub silent : (g′ : Graph) (s′ : Form) (kp′ : ℕ → List ℕ) → Inv g′ E s′ kp′ idle → Sound g′
+      → ((b p : ℕ) → In p (g′ .preds b) → In p (g .preds b) ⊎ (declares p d ≡ true)) → Grow s s′ → Whole E g′ s′ (ds ++ d ∷ [])
   silent g′ s′ kp′ i G was w = record {
     kp = kp′;
     inv = i;
@@ -57,7 +58,8 @@ module _ (E : Type 0) (g : Graph) (s : Form) (ds : List Done) (h : Whole E g s d
         (tells-mono s s′ (keeps w) b (λ v. s .entry v b) (λ v. s′ .entry v b) [] (λ v o e. w .entry v b o e) (acts b ds) (h .tells b));
   }
     where
-      on : (b p : ℕ) → (In p (g .preds b) → (e : Done) × In e ds × (declares p e ≡ true)) → In p (g .preds b) ⊎ (declares p d ≡ true) → (e : Done) × In e (ds ++ d ∷ []) × (declares p e ≡ true)
+      on : (b p : ℕ) → (In p (g .preds b) → (e : Done) × In e ds × (declares p e ≡ true)) → In p (g .preds b) ⊎ (declares p d ≡ true)
+          → (e : Done) × In e (ds ++ d ∷ []) × (declares p e ≡ true)
       on b p old (inl j) = let k = old j in (k .0, in-left (k .0) ds (d ∷ []) (k .1), k .2)
       on b p old (inr e) = (d, in-right d ds (d ∷ []) (inl refl), e)
 
@@ -148,7 +150,8 @@ module _ (E : Type 0) (g : Graph) (s : Form) (ds : List Done) (h : Whole E g s d
 
   -- only the graph's counts and marks change, and perhaps the logs
   wider-fine : Quiet → (n bl : ℕ) (ty : List ℕ) (br : ℕ → Bool) (s′ : Form) → Inv g E s′ (h .kp) idle → Grow s s′ → g .blocks ≤ bl
-      → ((w : ℕ) → w < length (g .types) → (w < length ty) × (getD ty w 0 ≡ getD (g .types) w 0)) → Fine (ok n (graph (g .call) bl ty br (g .dests) (g .preds) (g .sealed)) s′)
+      → ((w : ℕ) → w < length (g .types) → (w < length ty) × (getD ty w 0 ≡ getD (g .types) w 0))
+      → Fine (ok n (graph (g .call) bl ty br (g .dests) (g .preds) (g .sealed)) s′)
   wider-fine q n bl ty br s′ i w more typed = silent E g s ds h (said n) (q n) _ s′ (h .kp) (wider-inv g E s′ (h .kp) idle i (g .call) bl ty br more typed)
       (record { range = λ b p k. le-trans (h .sound .range b p k) more; nodup = h .sound .nodup; inside = λ b p k. le-trans (h .sound .inside b p k) more; names = h .sound .names })
       (λ b p k. inl k) w
@@ -194,7 +197,8 @@ module _ (E : Type 0) (g : Graph) (s : Form) (ds : List Done) (h : Whole E g s d
       ]
 
   -- other predecessors of an unsealed block
-  joined-fine : Quiet → (n b : ℕ) (ps : List ℕ) → g .sealed b ≡ false → b < g .blocks → Nodup ps → ((p : ℕ) → In p ps → (p < g .blocks) × In b (g .dests p))
+  joined-fine : Quiet → (n b : ℕ) (ps : List ℕ) → g .sealed b ≡ false → b < g .blocks → Nodup ps
+      → ((p : ℕ) → In p ps → (p < g .blocks) × In b (g .dests p))
       → ((p : ℕ) → In p ps → In p (g .preds b) ⊎ (declares p (said n) ≡ true)) → Fine (ok n (with-preds g (put b ps (g .preds))) s)
   joined-fine q n b ps z lb nd good was = silent E g s ds h (said n) (q n) _ s (h .kp) (joined-inv g E s (h .kp) idle (h .inv) b ps z)
       (record {
@@ -223,7 +227,8 @@ module _ (E : Type 0) (g : Graph) (s : Form) (ds : List Done) (h : Whole E g s d
       silent E g s ds h _ (q _) (mark-sealed g b) (seal-form g s b) (r .kp) (r .inv) (h .sound) (λ c p i. inl i) (r .grow)
 
   -- a call that is an act of one block
-  spoken : (n : ℕ) (s′ : Form) (kp′ : ℕ → List ℕ) → Inv g E s′ kp′ idle → ((b v : ℕ) → s′ .own v b ≡ cur (λ w. none) (acts b ds ++ act b (said n)) v)
+  spoken : (n : ℕ) (s′ : Form) (kp′ : ℕ → List ℕ) → Inv g E s′ kp′ idle
+      → ((b v : ℕ) → s′ .own v b ≡ cur (λ w. none) (acts b ds ++ act b (said n)) v)
       → ((b : ℕ) → Tells s′ b (λ v. s′ .entry v b) [] (acts b ds ++ act b (said n))) → Fine (ok n g s′)
   spoken n s′ kp′ i own tells = record {
     kp = kp′;
@@ -248,11 +253,13 @@ module _ (E : Type 0) (g : Graph) (s : Form) (ds : List Done) (h : Whole E g s d
     cur-else : (b v : ℕ) → x ≢ b → cur (λ w. none) (acts b ds ++ act b (said n)) v ≡ cur (λ w. none) (acts b ds) v
     cur-else b v d = ap (λ (l : List Act). cur (λ w. none) (acts b ds ++ l) v) (act-else b d) ∙ ap (λ (l : List Act). cur (λ w. none) l v) (append-nil (acts b ds))
 
-    tells-else : (s′ : Form) → Keeps s s′ → (b : ℕ) → ((v e : ℕ) → s .entry v b ≡ some e → s′ .entry v b ≡ some e) → x ≢ b → Tells s′ b (λ v. s′ .entry v b) [] (acts b ds ++ act b (said n))
+    tells-else : (s′ : Form) → Keeps s s′ → (b : ℕ) → ((v e : ℕ) → s .entry v b ≡ some e → s′ .entry v b ≡ some e) → x ≢ b
+        → Tells s′ b (λ v. s′ .entry v b) [] (acts b ds ++ act b (said n))
     tells-else s′ k b u d = subst (λ (l : List Act). Tells s′ b (λ v. s′ .entry v b) [] l) (sym (ap (λ (l : List Act). acts b ds ++ l) (act-else b d) ∙ append-nil (acts b ds)))
         (tells-mono s s′ k b (λ v. s .entry v b) (λ v. s′ .entry v b) [] u (acts b ds) (h .tells b))
 
-    tells-here : (s′ : Form) (b : ℕ) → x ≡ b → Tells s′ b (λ v. s′ .entry v b) [] (acts b ds ++ a ∷ []) → Tells s′ b (λ v. s′ .entry v b) [] (acts b ds ++ act b (said n))
+    tells-here : (s′ : Form) (b : ℕ) → x ≡ b → Tells s′ b (λ v. s′ .entry v b) [] (acts b ds ++ a ∷ [])
+        → Tells s′ b (λ v. s′ .entry v b) [] (acts b ds ++ act b (said n))
     tells-here s′ b e t = subst (λ (l : List Act). Tells s′ b (λ v. s′ .entry v b) [] (acts b ds ++ l)) (sym (act-here b e)) t
 
   made-param : made ≡ param → ⊥
@@ -290,7 +297,8 @@ module _ (E : Type 0) (g : Graph) (s : Form) (ds : List Done) (h : Whole E g s d
       new : s₂ .info (s .next) ≡ record { sort = made; type = y; home = x }
       new = put-same (s .next) (record { sort = made; type = y; home = x }) (s .info)
 
-  fine-define : (v x b : ℕ) → ((n c : ℕ) → act c (said n) ≡ if-so (eqb b c) (gives v n)) → (E → define g s v x b ≡ ok x g (write v b x s) → (c : ℕ) → In b (g .preds c) → ⊥) → Fine (define g s v x b)
+  fine-define : (v x b : ℕ) → ((n c : ℕ) → act c (said n) ≡ if-so (eqb b c) (gives v n))
+      → (E → define g s v x b ≡ ok x g (write v b x s) → (c : ℕ) → In b (g .preds c) → ⊥) → Fine (define g s v x b)
   fine-define v x b is nowhere =
       check 6 (no-var g s v || no-value g s x || no-block g s b) _ (omega arith) λ e₆. check 7 (not (eqb (s .info x .type) (type-of g v))) _ (omega arith) λ e₇.
       spoken x (write v b x s) (h .kp) (write-inv g E s (h .kp) idle (h .inv) v b x (λ ok-e. nowhere ok-e (rw (e₆, e₇) refl)))
@@ -345,18 +353,28 @@ module _ (E : Type 0) (g : Graph) (s : Form) (ds : List Done) (h : Whole E g s d
     grow : Grow s₀ (r .1)
     preds : (b p : ℕ) → In p (r .0 .preds b) → In p (g₀ .preds b)
 
-  each : (bs : List ℕ) (g₀ : Graph) (s₀ : Form) (kp : ℕ → List ℕ) → Inv g₀ E s₀ kp idle → Sound g₀ → Each g₀ s₀ (seal-each bs g₀ s₀)
+  each : (bs : List ℕ) (g₀ : Graph) (s₀ : Form) (kp : ℕ → List ℕ) → Inv g₀ E s₀ kp idle → Sound g₀
+      → Each g₀ s₀ (seal-each bs g₀ s₀)
   each [] g₀ s₀ kp i G = record { kp = kp; inv = i; sound = G; grow = grow-refl s₀; preds = λ b p j. j }
   each (b ∷ bs) g₀ s₀ kp i G = by (g₀ .sealed b) refl (each bs g₀ s₀ kp i G) (λ e. let r = sealed-one g₀ E s₀ kp i b e G in
       each bs (mark-sealed g₀ b) (seal-form g₀ s₀ b) (r .kp) (r .inv) G)
     where
-      by : (z : Bool) → g₀ .sealed b ≡ z → Each g₀ s₀ (seal-each bs g₀ s₀) → (g₀ .sealed b ≡ false → Each (mark-sealed g₀ b) (seal-form g₀ s₀ b) (seal-each bs (mark-sealed g₀ b) (seal-form g₀ s₀ b)))
-          → Each g₀ s₀ (elim z as (λ _. Graph × Form) [ true ↦ seal-each bs g₀ s₀ | false ↦ seal-each bs (mark-sealed g₀ b) (seal-form g₀ s₀ b) ])
+      by : (z : Bool) → g₀ .sealed b ≡ z → Each g₀ s₀ (seal-each bs g₀ s₀)
+          → (g₀ .sealed b ≡ false → Each (mark-sealed g₀ b) (seal-form g₀ s₀ b) (seal-each bs (mark-sealed g₀ b) (seal-form g₀ s₀ b)))
+          → Each g₀ s₀ (elim z as (λ _. Graph × Form)
+          [ true ↦ seal-each bs g₀ s₀ | false ↦ seal-each bs (mark-sealed g₀ b) (seal-form g₀ s₀ b) ])
       by true e on off = on
       by false e on off =
           let r = sealed-one g₀ E s₀ kp i b e G in
           let k = off e in
-          record { kp = k .kp; inv = k .inv; sound = k .sound; grow = grow-trans s₀ (seal-form g₀ s₀ b) (seal-each bs (mark-sealed g₀ b) (seal-form g₀ s₀ b) .1) (r .grow) (k .grow); preds = k .preds }
+          record {
+            kp = k .kp;
+            inv = k .inv;
+            sound = k .sound;
+            grow = grow-trans s₀ (seal-form g₀ s₀ b)
+                (seal-each bs (mark-sealed g₀ b) (seal-form g₀ s₀ b) .1) (r .grow) (k .grow);
+            preds = k .preds;
+          }
 
   fine-all : Quiet → Fine (seal-all g s)
   fine-all q = let r = each (upFrom 0 (g .blocks)) g s (h .kp) (h .inv) (h .sound) in
@@ -367,7 +385,9 @@ module _ (E : Type 0) (g : Graph) (s : Form) (ds : List Done) (h : Whole E g s d
       joined-fine q _ b (swap-out p (g .preds b)) e₈ (leb-no (g .blocks) b (or-no (no-block g s b) (no-branch g s p) e₆ .0)) (out-nodup p (g .preds b) (h .sound .nodup b))
       (λ r i. let j = out-in p (g .preds b) r i in (h .sound .range b r j, h .sound .names b r j)) (λ r i. inl (out-in p (g .preds b) r i))
 
-  fine-define-at : (v b : ℕ) (o : Option ℕ) → ((n e : ℕ) → act e (said n) ≡ if-so (eqb b e) (gives v n)) → (E → (x : ℕ) → define-answer g s v b o ≡ ok x g (write v b x s) → (e : ℕ) → In b (g .preds e) → ⊥) → Fine (define-answer g s v b o)
+  fine-define-at : (v b : ℕ) (o : Option ℕ) → ((n e : ℕ) → act e (said n) ≡ if-so (eqb b e) (gives v n))
+      → (E → (x : ℕ) → define-answer g s v b o ≡ ok x g (write v b x s) → (e : ℕ) → In b (g .preds e) → ⊥)
+      → Fine (define-answer g s v b o)
   fine-define-at v b none is nowhere = omega arith
   fine-define-at v b (some x) is nowhere = fine-define v x b is (λ ok-e. nowhere ok-e x)
 

@@ -34,8 +34,10 @@ module _ (s : Form) where
 
 -- Each has a cause, no two in a block have the same, and so a block has no more of them than there are variables.
 pub record Once (g : Graph) (s : Form) : Type 0 where
-  pub param-caused : (x : Value) → x < s .next → s .info x .sort ≡ param → (v : Variable) × (v < length (g .types)) × Causes-param s v (s .info x .home) x
-  pub zero-caused : (z : Value) → z < s .next → s .info z .sort ≡ nought → (v : Variable) × (v < length (g .types)) × Causes-zero s v (s .info z .home) z
+  pub param-caused : (x : Value) → x < s .next → s .info x .sort ≡ param
+      → (v : Variable) × (v < length (g .types)) × Causes-param s v (s .info x .home) x
+  pub zero-caused : (z : Value) → z < s .next → s .info z .sort ≡ nought
+      → (v : Variable) × (v < length (g .types)) × Causes-zero s v (s .info z .home) z
   pub one-param : (v : Variable) (b : Block) (x y : Value) → Causes-param s v b x → Causes-param s v b y → x ≡ y
   pub one-zero : (v : Variable) (b : Block) (z u : Value) → Causes-zero s v b z → Causes-zero s v b u → z ≡ u
   pub few-params : (b : Block) (l : List Value) → Listed-in s param b l → length l ≤ length (g .types)
