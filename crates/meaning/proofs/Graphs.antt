@@ -14,9 +14,9 @@ use Rattle.definition.specs.Read.{write}
 use Rattle.meaning.specs.Path.{In}
 use Rattle.meaning.proofs.Maps.{same?, put-other, put₂-other, false-true}
 use Rattle.meaning.proofs.Facts.{Edge, same, kept}
-use Rattle.meaning.proofs.Inv.{Inv}
+use Rattle.meaning.proofs.Inv.{Inv, Work}
 
-module _ (g : Graph) (E : Type 0) (s : Form) (kp : ℕ → List ℕ) (op : ℕ → List (ℕ × ℕ)) (h : Inv g E s kp op) where
+module _ (g : Graph) (E : Type 0) (s : Form) (kp : ℕ → List ℕ) (op : Work) (h : Inv g E s kp op) where
   -- 1. more blocks and variables, another branch mark or call
   module _ (c n : ℕ) (ty : List ℕ) (br : ℕ → Bool) (more : g .blocks ≤ n)
       (typed : (w : ℕ) → w < length (g .types) → (w < length ty) × (getD ty w 0 ≡ getD (g .types) w 0)) where

@@ -13,15 +13,15 @@ use Rattle.meaning.specs.Path.{In}
 use Rattle.meaning.proofs.Maps.{same?, put-same, put-other, put-at, some-inj, put₂-at, put₂-other, here?, some-none}
 use Rattle.meaning.proofs.Alias.{tree-suc, follow-more}
 use Rattle.meaning.proofs.Lists.{in-cases, nodup-snoc, snds, snds-append, in-one, in-right, in-left}
-use Rattle.meaning.proofs.Inv.{Grow, pending, Param, Inv, edge-grow, nought-grow, pending-par, kept-root, param-grow}
+use Rattle.meaning.proofs.Inv.{Grow, pending, Param, Inv, edge-grow, nought-grow, pending-par, kept-root, param-grow, Work}
 
 -- the form with a new parameter for v on c, where ws waits
-abbrev pub grown : Graph → Form → ℕ → ℕ → (ℕ → List (ℕ × ℕ)) → Form
+abbrev pub grown : Graph → Form → ℕ → ℕ → Work → Form
 grown g s v c ws = with-pending (new-param g v c s) ws
 
 -- 4. a new parameter x for v on c
-module _ (g : Graph) (E : Type 0) (s : Form) (kp : ℕ → List ℕ) (op op′ : ℕ → List (ℕ × ℕ)) (h : Inv g E s kp op) (v c : ℕ)
-    (ws : ℕ → List (ℕ × ℕ))
+module _ (g : Graph) (E : Type 0) (s : Form) (kp : ℕ → List ℕ) (op op′ : Work) (h : Inv g E s kp op) (v c : ℕ)
+    (ws : Work)
     (blank : s .entry v c ≡ none) (lv : v < length (g .types)) (lc : c < g .blocks)
     (elsewhere : (b : ℕ) → b ≢ c → cond (g .sealed b) (op′ b) (ws b) ≡ pending g s op b)
     (there : cond (g .sealed c) (op′ c) (ws c) ≡ pending g s op c ++ (v, s .next) ∷ []) where

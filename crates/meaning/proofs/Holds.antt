@@ -16,9 +16,10 @@ use Rattle.meaning.proofs.Stored.{stored-of}
 use Rattle.meaning.proofs.Causes.{once-of}
 use Rattle.meaning.proofs.Chains.{chain-ends}
 use Rattle.meaning.proofs.Enough.{enough-of}
+use Rattle.meaning.proofs.Inv.{Work}
 
 module _ (g : Graph) (G : Sound g) (B : Bounds g) where
-  pub holds-of : (op : ℕ → List (ℕ × ℕ)) (k : ℕ) (s : Form) → Rest g op k s → Holds g s
+  pub holds-of : (op : Work) (k : ℕ) (s : Form) → Rest g op k s → Holds g s
   holds-of op k s r = record {
     rooms = rooms-of g G B op k s r;
     stored = stored-of g G B op k s r;
@@ -27,7 +28,7 @@ module _ (g : Graph) (G : Sound g) (B : Bounds g) where
     enough = enough-of g G s (r .inv .aliased .tree);
   }
 
-  pub holds-now : (v : ℕ) (later : ℕ → List (ℕ × ℕ)) (k : ℕ) (c : Conf) → Moment g v later k c → Holds g (c .form)
+  pub holds-now : (v : ℕ) (later : Work) (k : ℕ) (c : Conf) → Moment g v later k c → Holds g (c .form)
   holds-now v later k c m = holds-of (at-work v (c .tasks) later) (finishes (c .tasks) k) (c .form) (m .now .0 .rest)
 
 pub holds : (cs : List Call) → Holds (session cs .graph) (session cs .form)

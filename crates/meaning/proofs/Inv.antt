@@ -79,12 +79,16 @@ param-grow s s′ b x h root r = let i = h .info x (r .below) in record { home =
 
 -- ---- the invariant, of the parameters kp that are kept and op that are at work
 
+-- in each block, variables with their parameters
+abbrev pub Work : Type 0
+Work = ℕ → List (ℕ × ℕ)
+
 -- the parameters of b that are not settled: of a sealed block those at work, of another those that wait
-abbrev pub pending : Graph → Form → (ℕ → List (ℕ × ℕ)) → ℕ → List (ℕ × ℕ)
+abbrev pub pending : Graph → Form → Work → ℕ → List (ℕ × ℕ)
 pending g s op b = cond (g .sealed b) (op b) (s .pending b)
 
 -- the lists of parameters: kept, then pending
-pub record Listed (sealed : ℕ → Bool) (pend : ℕ → List (ℕ × ℕ)) (info : ℕ → Info) (target : ℕ → ℕ) (next : ℕ)
+pub record Listed (sealed : ℕ → Bool) (pend : Work) (info : ℕ → Info) (target : ℕ → ℕ) (next : ℕ)
     (params kp : ℕ → List ℕ) : Type 0 where
   pub split : (b : ℕ) → params b ≡ kp b ++ snds (pend b)
   pub pars : (b x : ℕ) → In x (params b) → Parameter info target next b x
@@ -104,7 +108,7 @@ pub record Aliased (info : ℕ → Info) (target : ℕ → ℕ) (next : ℕ) : T
   pub roots : (x : ℕ) → (info x .sort ≡ param → ⊥) → target x ≡ x
 
 -- E: what the clauses about edges suppose
-pub record Inv (g : Graph) (E : Type 0) (s : Form) (kp : ℕ → List ℕ) (op : ℕ → List (ℕ × ℕ)) : Type 0 where
+pub record Inv (g : Graph) (E : Type 0) (s : Form) (kp : ℕ → List ℕ) (op : Work) : Type 0 where
   pub known : (w b e : ℕ) → s .entry w b ≡ some e → (w < length (g .types)) × (b < g .blocks)
   pub edge : E → (w b e : ℕ) → s .entry w b ≡ some e → In (w, e) (pending g s op b) ⊎ Edge g s kp w b e
   pub first : E → (w b e : ℕ) → s .entry w b ≡ some e → g .preds b ≡ [] → In (w, e) (pending g s op b) ⊎ Nought s (type-of g w) b e
@@ -129,7 +133,7 @@ edge-grow g s s′ kp kp′ h w b e keep (kept z r x f) =
       λ j lt q. let a = o .2 j lt q in (a .0, k .2 p j (a .0) i lt q (a .1), h .res (a .0) (o .0) (a .2)),
     ))
 
-module _ (g : Graph) (E : Type 0) (s : Form) (kp : ℕ → List ℕ) (op : ℕ → List (ℕ × ℕ)) (h : Inv g E s kp op) where
+module _ (g : Graph) (E : Type 0) (s : Form) (kp : ℕ → List ℕ) (op : Work) (h : Inv g E s kp op) where
   -- what is pending or kept in b is a parameter of b
   pub pending-par : (w b x : ℕ) → In (w, x) (pending g s op b) → In x (s .params b)
   pending-par w b x i = rw (h .listed .split b) (in-right x (kp b) (snds (pending g s op b)) (in-snds w x (pending g s op b) i))
@@ -225,7 +229,7 @@ module _ (g : Graph) (E : Type 0) (s : Form) (kp : ℕ → List ℕ) (op : ℕ �
 
   -- where the parameter x of b is the first that is at work there, and then ws are
   module _ (v b x : ℕ) (ws : List (ℕ × ℕ)) (seal : g .sealed b ≡ true) (at : op b ≡ (v, x) ∷ ws) where
-    abbrev op′ : ℕ → List (ℕ × ℕ)
+    abbrev op′ : Work
     op′ = put b ws op
 
     pub x-pending : In (v, x) (pending g s op b)

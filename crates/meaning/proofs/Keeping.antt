@@ -19,7 +19,7 @@ use Rattle.meaning.proofs.Maps.{same?, put-same, put-other, put-at, som
 use Rattle.meaning.proofs.Facts.{Edge, kept, arg-of}
 use Rattle.meaning.proofs.Alias.{follow-root}
 use Rattle.meaning.proofs.Lists.{in-left, in-right, snds, arg-more, arg-last}
-use Rattle.meaning.proofs.Inv.{Inv, edge-grow, x-par, was-pending, kept-root, grow-refl, not-kept, still-pending, parts}
+use Rattle.meaning.proofs.Inv.{Inv, edge-grow, x-par, was-pending, kept-root, grow-refl, not-kept, still-pending, parts, Work}
 
 pub dest-yes : (ds : List ℕ) (i b : ℕ) → i < length ds → getD ds i 0 ≡ b → is-dest ds i b ≡ true
 dest-yes [] i b l e = absurd (not-suc-le-zero l)
@@ -87,7 +87,7 @@ result-of v s (p ∷ ps) (r ∷ rs) q h (inl e) = (r, h .0 .0, ap (def s v) e �
 result-of v s (p ∷ ps) (r ∷ rs) q h (inr i) = let k = result-of v s ps rs q (h .1) i in (k .0, k .1, k .2, k .3, inr (k .4))
 
 -- 5. the parameter x of b, the first that is at work there, is kept
-module _ (g : Graph) (E : Type 0) (s : Form) (kp : ℕ → List ℕ) (op : ℕ → List (ℕ × ℕ)) (h : Inv g E s kp op) (v b x : ℕ)
+module _ (g : Graph) (E : Type 0) (s : Form) (kp : ℕ → List ℕ) (op : Work) (h : Inv g E s kp op) (v b x : ℕ)
     (ws : List (ℕ × ℕ))
     (seal : g .sealed b ≡ true) (at : op b ≡ (v, x) ∷ ws) (rs : List ℕ) (len : length rs ≡ length (g .preds b))
     (res : E → Results v s (g .preds b) rs)
@@ -98,7 +98,7 @@ module _ (g : Graph) (E : Type 0) (s : Form) (kp : ℕ → List ℕ) (op : ℕ �
   abbrev kp′ : ℕ → List ℕ
   kp′ = put b (kp b ++ x ∷ []) kp
 
-  abbrev op′ : ℕ → List (ℕ × ℕ)
+  abbrev op′ : Work
   op′ = put b ws op
 
   kp-at : (c : ℕ) → c ≡ b → kp′ c ≡ kp c ++ x ∷ []

@@ -15,12 +15,13 @@ use Rattle.definition.specs.Read.{settle-left, Got, alias, write, feed-all}
 use Rattle.meaning.proofs.Sums.{sum, sum-change}
 use Rattle.meaning.proofs.Lacking.{Somes, lack-all, all-fewer, Has, all-less, write-somes}
 use Rattle.meaning.proofs.Maps.{put-other, put-same, put₂-at}
+use Rattle.meaning.proofs.Inv.{Work}
 
 -- all pending variables
-abbrev pub waiting : (ℕ → List (ℕ × ℕ)) → ℕ
+abbrev pub waiting : Work → ℕ
 waiting ws = sum (λ b. length (ws b)) (limits .blocks)
 
-pub waiting-put : (ws : ℕ → List (ℕ × ℕ)) (c : ℕ) (l : List (ℕ × ℕ)) → c < limits .blocks
+pub waiting-put : (ws : Work) (c : ℕ) (l : List (ℕ × ℕ)) → c < limits .blocks
     → waiting (put c l ws) + length (ws c) ≡ waiting ws + length l
 waiting-put ws c l h = omega (
   arith,

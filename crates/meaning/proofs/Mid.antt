@@ -16,7 +16,7 @@ use Rattle.meaning.specs.Machine.{Task, look, finish, Conf, conf, open-p
 use Rattle.meaning.specs.Path.{In}
 use Rattle.meaning.proofs.Maps.{same?, put-same, put-other, false-true, put-put, put-id}
 use Rattle.meaning.proofs.Lists.{in-cons, take-length, take-in, reverse-in, drop-length, drop-in}
-use Rattle.meaning.proofs.Inv.{pending, Inv, pending-par}
+use Rattle.meaning.proofs.Inv.{pending, Inv, pending-par, Work}
 use Rattle.meaning.proofs.Growing.{grown}
 use Rattle.meaning.proofs.Settle.{Settled, settled}
 use Rattle.meaning.proofs.Reading.{Sound, Busy, busy-grow, Trail, walked, Begun, met-marked, Walked, begun-waiting, begun-working}
@@ -32,13 +32,13 @@ finishes (look p ∷ ts) k = finishes ts k
 finishes (finish x b ∷ ts) k = suc (finishes ts k)
 
 -- the parameters of v at work: those that the stack is to settle, before those that later
-abbrev pub at-work : ℕ → List Task → (ℕ → List (ℕ × ℕ)) → ℕ → List (ℕ × ℕ)
+abbrev pub at-work : ℕ → List Task → Work → ℕ → List (ℕ × ℕ)
 at-work v [] later = later
 at-work v (look p ∷ ts) later = at-work v ts later
 at-work v (finish x b ∷ ts) later = put b ((v, x) ∷ at-work v ts later b) (at-work v ts later)
 
 -- the invariant without edges, ranges, and room, where op is at work and k of it are to be settled
-pub record Rest (g : Graph) (op : ℕ → List (ℕ × ℕ)) (k : ℕ) (s : Form) : Type 0 where
+pub record Rest (g : Graph) (op : Work) (k : ℕ) (s : Form) : Type 0 where
   pub kp : ℕ → List ℕ
   pub inv : Inv g ⊥ s kp op
   pub ranged : Ranged g s
@@ -57,7 +57,7 @@ module _ (g : Graph) where
   Fits (look p ∷ ts) n = Fits ts (suc n)
   Fits (finish x b ∷ ts) n = (m : ℕ) × (n ≡ length (g .preds b) + m) × Fits ts (suc m)
 
-module _ (g : Graph) (v : ℕ) (later : ℕ → List (ℕ × ℕ)) (k : ℕ) where
+module _ (g : Graph) (v : ℕ) (later : Work) (k : ℕ) where
   pub record Mid (ts : List Task) (n : ℕ) (s : Form) : Type 0 where
     pub rest : Rest g (at-work v ts later) (finishes ts k) s
     pub busy : Busy g v s (at-work v ts later)
@@ -83,11 +83,11 @@ module _ (g : Graph) (v : ℕ) (later : ℕ → List (ℕ × ℕ)) (k : ℕ) whe
       let r = looks-on ps ts (suc n) s (λ q i. lt q (inr i)) (subst (λ (j : ℕ). Mid ts j s) e h) in
       record { rest = r .rest; busy = r .busy; sane = (lt p (inl refl), r .sane); fits = r .fits }
 
-module _ (g : Graph) (G : Sound g) (B : Bounds g) (v : ℕ) (lv : v < length (g .types)) (later : ℕ → List (ℕ × ℕ)) (k : ℕ) where
+module _ (g : Graph) (G : Sound g) (B : Bounds g) (v : ℕ) (lv : v < length (g .types)) (later : Work) (k : ℕ) where
   -- looking at p
   module _ (p : ℕ) (ts : List Task) (rs : List ℕ) (s : Form) (lp : p < g .blocks) (h : Mid g v later k ts (suc (length rs)) s)
       (low : (r : ℕ) → In r rs → r < s .next) where
-    abbrev op : ℕ → List (ℕ × ℕ)
+    abbrev op : Work
     op = at-work v ts later
 
     met-now : (over : List ℕ) (c x : ℕ) → Trail g v s p over c → def s v c ≡ some x → Now g v later k (conf ts (x ∷ rs) (mark v x over s))
@@ -112,7 +112,7 @@ module _ (g : Graph) (G : Sound g) (B : Bounds g) (v : ℕ) (lv : v < length (g 
       x = s .next
 
       -- with a new parameter, where ws waits and op′ is at work
-      module _ (ws op′ : ℕ → List (ℕ × ℕ)) (quiet : (b : ℕ) → g .sealed b ≡ true → ws b ≡ [])
+      module _ (ws op′ : Work) (quiet : (b : ℕ) → g .sealed b ≡ true → ws b ≡ [])
           (m : Begun g v ⊥ s (h .rest .kp) op′ p c ws (mark v (s .next) (before c over) (grown g s v c ws))) where
         abbrev s₁ : Form
         s₁ = grown g s v c ws
@@ -179,7 +179,7 @@ module _ (g : Graph) (G : Sound g) (B : Bounds g) (v : ℕ) (lv : v < length (g 
   -- settling the parameter x of b
   module _ (x b : ℕ) (ts : List Task) (rs : List ℕ) (s : Form) (h : Mid g v later k (finish x b ∷ ts) (length rs) s)
       (low : (r : ℕ) → In r rs → r < s .next) where
-    abbrev op₂ : ℕ → List (ℕ × ℕ)
+    abbrev op₂ : Work
     op₂ = at-work v ts later
 
     abbrev n₂ : ℕ
@@ -196,7 +196,7 @@ module _ (g : Graph) (G : Sound g) (B : Bounds g) (v : ℕ) (lv : v < length (g 
       record {
         rest = record {
           kp = d .kp;
-          inv = subst (λ (f : ℕ → List (ℕ × ℕ)). Inv g ⊥ t (d .kp) f) (put-put b (op₂ b) ((v, x) ∷ op₂ b) op₂ ∙ put-id b op₂) (d .inv);
+          inv = subst (λ (f : Work). Inv g ⊥ t (d .kp) f) (put-put b (op₂ b) ((v, x) ∷ op₂ b) op₂ ∙ put-id b op₂) (d .inv);
           ranged = rng .0;
           load = load-settle s t (settle-somes g b x qs s left) (adds .makes) (finishes ts k) (adds .next) (adds .zeros) (adds .pending) (h .rest .load);
         };

@@ -17,7 +17,7 @@ use Rattle.definition.specs.Session.{State}
 use Rattle.meaning.specs.Machine.{Task, look, finish, Conf, conf, turn, turns}
 use Rattle.meaning.specs.Path.{In}
 use Rattle.meaning.proofs.Maps.{same?, put-same, put-other, put-at, or-none}
-use Rattle.meaning.proofs.Inv.{pending-par}
+use Rattle.meaning.proofs.Inv.{pending-par, Work}
 use Rattle.meaning.proofs.Reading.{Sound}
 use Rattle.meaning.proofs.Machine.{Goes, there, on}
 use Rattle.meaning.proofs.Heights.{Within, Low, run-within}
@@ -79,7 +79,7 @@ Named g s (look p ∷ ts) = (p < g .blocks) × Named g s ts
 Named g s (finish x b ∷ ts) = (x < s .next) × (b < g .blocks) × Named g s ts
 
 -- at one moment
-module _ (g : Graph) (G : Sound g) (B : Bounds g) (v : ℕ) (lv : v < length (g .types)) (later : ℕ → List (ℕ × ℕ)) (k : ℕ) (rs : List ℕ)
+module _ (g : Graph) (G : Sound g) (B : Bounds g) (v : ℕ) (lv : v < length (g .types)) (later : Work) (k : ℕ) (rs : List ℕ)
     (s : Form) where
   -- the number that falls, at most `call-room limits`
   pub falls : (t : Task) (ts : List Task) → Moment g v later k (conf (t ∷ ts) rs s)

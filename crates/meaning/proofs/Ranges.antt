@@ -21,7 +21,7 @@ use Rattle.meaning.proofs.Causing.{Caused, new-caused, entered-caused, 
 use Rattle.meaning.proofs.Growing.{grown}
 use Rattle.meaning.proofs.Maps.{same?, put-same, put-other, put-at, some-inj, put₂-at, put₂-other, here?, false-true}
 use Rattle.meaning.proofs.Lists.{nodup-snoc, in-cases, without-in, has-in, in-one, map-in}
-use Rattle.meaning.proofs.Inv.{Grow, Param, nought-param}
+use Rattle.meaning.proofs.Inv.{Grow, Param, nought-param, Work}
 
 -- the graph: its counts of blocks, types, branch marks, destinations, sealed marks
 pub record Bounded (n : ℕ) (ts : List ℕ) (br : ℕ → Bool) (ds : ℕ → List ℕ) (sl : ℕ → Bool) : Type 0 where
@@ -216,7 +216,7 @@ module _ (g : Graph) (s : Form) (h : Ranged g s) where
   })
 
   -- a new parameter for v on c, where ws waits afterwards
-  pub grown-ranged : (v c : ℕ) (ws : ℕ → List (ℕ × ℕ)) → v < length (g .types) → c < g .blocks → type-of g v < type-count
+  pub grown-ranged : (v c : ℕ) (ws : Work) → v < length (g .types) → c < g .blocks → type-of g v < type-count
       → s .target (s .next) ≡ s .next
       → Grow s (grown g s v c ws) → ((b : ℕ) → g .sealed b ≡ true → ws b ≡ []) → Ranged g (grown g s v c ws)
   grown-ranged v c ws lv lc ty fresh up quiet = record {

@@ -15,7 +15,7 @@ use Rattle.definition.specs.Read.{read-past, read-on, read, wait}
 use Rattle.meaning.specs.Path.{In}
 use Rattle.meaning.specs.Stored.{Nodup}
 use Rattle.meaning.proofs.Maps.{same?, put-same, put-other, eqb-same, eqb-diff, some-inj, put₂-at, put₂-other, some-none, or-none, put-put, put-id}
-use Rattle.meaning.proofs.Inv.{Grow, grow-refl, grow-trans, def-grow, pending, Inv, mark-inv, mark-grow}
+use Rattle.meaning.proofs.Inv.{Grow, grow-refl, grow-trans, def-grow, pending, Inv, mark-inv, mark-grow, Work}
 use Rattle.meaning.proofs.Keeping.{Results, results-length}
 use Rattle.meaning.proofs.Growing.{grown, grown-grow, grown-inv}
 use Rattle.meaning.proofs.Settle.{Settled, settled}
@@ -43,10 +43,10 @@ only-is false ps p e = absurd (some-none e refl)
 
 module _ (g : Graph) (v : ℕ) where
   -- a block with parameters at work has an entry of v
-  abbrev pub Busy : Form → (ℕ → List (ℕ × ℕ)) → Type 0
+  abbrev pub Busy : Form → Work → Type 0
   Busy s op = (c : ℕ) → g .sealed c ≡ true → (op c ≡ []) ⊎ ((e : ℕ) × (s .entry v c ≡ some e))
 
-  pub busy-grow : (s s′ : Form) (op : ℕ → List (ℕ × ℕ)) → Grow s s′ → Busy s op → Busy s′ op
+  pub busy-grow : (s s′ : Form) (op : Work) → Grow s s′ → Busy s op → Busy s′ op
   busy-grow s s′ op h k c e = ⊎-map (λ q. q) (λ q. (q .0, h .entry v c (q .0) (q .1))) (k c e)
 
   -- a walk from b over blocks that lack v, to e
@@ -68,7 +68,7 @@ module _ (g : Graph) (v : ℕ) where
   ]
 
   module _ (E : Type 0) where
-    pub record Read (s : Form) (op : ℕ → List (ℕ × ℕ)) (b : ℕ) (r : Got) : Type 0 where
+    pub record Read (s : Form) (op : Work) (b : ℕ) (r : Got) : Type 0 where
       pub kp : ℕ → List ℕ
       pub inv : Inv g E (r .1) kp op
       pub grow : Grow s (r .1)
@@ -78,15 +78,15 @@ module _ (g : Graph) (v : ℕ) where
 
     -- rec reads v rightly, where fewer than n blocks lack it
     abbrev pub Reads : ℕ → (ℕ → Form → Got) → Type 0
-    Reads n rec = (b : ℕ) (s : Form) (kp : ℕ → List ℕ) (op : ℕ → List (ℕ × ℕ)) → b < g .blocks → Inv g E s kp op → Busy s op → lacks v s (g .blocks) < n → Read s op b (rec b s)
+    Reads n rec = (b : ℕ) (s : Form) (kp : ℕ → List ℕ) (op : Work) → b < g .blocks → Inv g E s kp op → Busy s op → lacks v s (g .blocks) < n → Read s op b (rec b s)
 
-    pub record All (s : Form) (op : ℕ → List (ℕ × ℕ)) (ps : List ℕ) (r : List ℕ × Form) : Type 0 where
+    pub record All (s : Form) (op : Work) (ps : List ℕ) (r : List ℕ × Form) : Type 0 where
       pub kp : ℕ → List ℕ
       pub inv : Inv g E (r .1) kp op
       pub grow : Grow s (r .1)
       pub results : Results v (r .1) ps (r .0)
 
-    all-read : (n : ℕ) (rec : ℕ → Form → Got) → Reads n rec → (ps : List ℕ) (s : Form) (kp : ℕ → List ℕ) (op : ℕ → List (ℕ × ℕ))
+    all-read : (n : ℕ) (rec : ℕ → Form → Got) → Reads n rec → (ps : List ℕ) (s : Form) (kp : ℕ → List ℕ) (op : Work)
         → ((p : ℕ) → In p ps → p < g .blocks) → Inv g E s kp op → Busy s op → lacks v s (g .blocks) < n → All s op ps (read-all rec ps s)
     all-read n rec R [] s kp op lt h k l = record { kp = kp; inv = h; grow = grow-refl s; results = tt }
     all-read n rec R (p ∷ ps) s kp op lt h k l =
@@ -102,14 +102,14 @@ module _ (g : Graph) (v : ℕ) where
         }
 
     -- marking a walk's blocks, from its end back
-    pub record Marked (s₀ s : Form) (kp : ℕ → List ℕ) (op : ℕ → List (ℕ × ℕ)) (b x : ℕ) (s′ : Form) : Type 0 where
+    pub record Marked (s₀ s : Form) (kp : ℕ → List ℕ) (op : Work) (b x : ℕ) (s′ : Form) : Type 0 where
       pub inv : Inv g E s′ kp op
       pub grow : Grow s s′
       pub here : def s′ v b ≡ some x
       pub free : (c : ℕ) → def s₀ v c ≡ none → (e : ℕ) → s′ .entry v c ≡ some e → e ≡ x
 
     -- a new parameter for v on c, where ws waits, which the block b records too
-    pub record Begun (s : Form) (kp : ℕ → List ℕ) (op : ℕ → List (ℕ × ℕ)) (b c : ℕ) (ws : ℕ → List (ℕ × ℕ))
+    pub record Begun (s : Form) (kp : ℕ → List ℕ) (op : Work) (b c : ℕ) (ws : Work)
         (s′ : Form) : Type 0 where
       pub inv : Inv g E s′ kp op
       pub grew : Grow s (grown g s v c ws)
@@ -142,7 +142,7 @@ module _ (g : Graph) (G : Sound g) (v : ℕ) where
           to none q = let w = below p lp q in record { trail = (refl, e, (p, u, w .trail)); low = w .low; met = w .met; unmet = w .unmet }
 
   pub filled : (E : Type 0) (n : ℕ) (rec : ℕ → Form → Got) → Reads g v E n rec
-      → (b x : ℕ) (ws : List (ℕ × ℕ)) (s : Form) (kp : ℕ → List ℕ) (op : ℕ → List (ℕ × ℕ))
+      → (b x : ℕ) (ws : List (ℕ × ℕ)) (s : Form) (kp : ℕ → List ℕ) (op : Work)
       → g .sealed b ≡ true → op b ≡ (v, x) ∷ ws → Inv g E s kp op → Busy g v s op → lacks v s (g .blocks) < n
       → Settled g E s (put b ws op) x (fill rec g b x s)
   filled E n rec R b x ws s kp op seal at h k l =
@@ -152,7 +152,7 @@ module _ (g : Graph) (G : Sound g) (v : ℕ) where
       record { kp = done .kp; inv = done .inv; grow = grow-trans s (q .1) (settle g b x (q .0) (q .1) .1) (all .grow) (done .grow); alike = done .alike }
 
 module _ (g : Graph) (G : Sound g) (v : ℕ) (lv : v < length (g .types)) (E : Type 0) where
-  pub marked : (s₀ s : Form) (kp : ℕ → List ℕ) (op : ℕ → List (ℕ × ℕ)) (x e : ℕ) → Inv g E s kp op
+  pub marked : (s₀ s : Form) (kp : ℕ → List ℕ) (op : Work) (x e : ℕ) → Inv g E s kp op
       → ((w c : ℕ) → s .own w c ≡ s₀ .own w c)
       → ((c : ℕ) → def s₀ v c ≡ none → (u : ℕ) → s .entry v c ≡ some u → u ≡ x) → def s v e ≡ some x
       → (l : List ℕ) (b : ℕ) → Trail g v s₀ b l e → Marked g v E s₀ s kp op b x (mark v x l s)
@@ -178,7 +178,7 @@ module _ (g : Graph) (G : Sound g) (v : ℕ) (lv : v < length (g .types)) (E : T
       }
 
   -- after a walk from b over the blocks `over` to c
-  module _ (b : ℕ) (s : Form) (kp : ℕ → List ℕ) (op : ℕ → List (ℕ × ℕ)) (h : Inv g E s kp op) (over : List ℕ) (c : ℕ)
+  module _ (b : ℕ) (s : Form) (kp : ℕ → List ℕ) (op : Work) (h : Inv g E s kp op) (over : List ℕ) (c : ℕ)
       (tr : Trail g v s b over c) where
     unmarked : (d : ℕ) → def s v d ≡ none → s .entry v d ≡ none
     unmarked d q = or-none (s .own v d) (s .entry v d) q .1
@@ -193,7 +193,7 @@ module _ (g : Graph) (G : Sound g) (v : ℕ) (lv : v < length (g .types)) (E : T
       x = s .next
 
       -- with this waiting and these at work
-      module _ (ws op′ : ℕ → List (ℕ × ℕ)) (elsewhere : (d : ℕ) → d ≢ c → cond (g .sealed d) (op′ d) (ws d) ≡ pending g s op d)
+      module _ (ws op′ : Work) (elsewhere : (d : ℕ) → d ≢ c → cond (g .sealed d) (op′ d) (ws d) ≡ pending g s op d)
           (there : cond (g .sealed c) (op′ c) (ws c) ≡ pending g s op c ++ (v, s .next) ∷ []) where
         abbrev s₁ : Form
         s₁ = grown g s v c ws
@@ -253,7 +253,7 @@ module _ (g : Graph) (G : Sound g) (v : ℕ) (lv : v < length (g .types)) (E : T
           let done = filled g G v E n rec R c x (op c) s₂ kp (put c ((v, x) ∷ op c) op) e (put-same c ((v, x) ∷ op c) op) (m .inv) (m .busy) fits in
           record {
             kp = done .kp;
-            inv = subst (λ (f : ℕ → List (ℕ × ℕ)). Inv g E (fill rec g c x s₂ .1) (done .kp) f) (put-put c (op c) ((v, x) ∷ op c) op ∙ put-id c op) (done .inv);
+            inv = subst (λ (f : Work). Inv g E (fill rec g c x s₂ .1) (done .kp) f) (put-put c (op c) ((v, x) ∷ op c) op ∙ put-id c op) (done .inv);
             grow = grow-trans s s₂ (fill rec g c x s₂ .1) (m .grow) (done .grow);
             o = x;
             recorded = def-grow s₂ (fill rec g c x s₂ .1) (done .grow) v b x (m .here);

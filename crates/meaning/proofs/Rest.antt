@@ -22,6 +22,7 @@ use Rattle.meaning.proofs.Load.{waiting-put}
 use Rattle.meaning.proofs.Ranges.{Bounds}
 use Rattle.meaning.proofs.Lacking.{all-fewer}
 use Rattle.meaning.proofs.Mid.{Now, looks-on, goes-now, Rest}
+use Rattle.meaning.proofs.Inv.{Work}
 
 module _ (g : Graph) (G : Sound g) (B : Bounds g) where
   -- the parameter at work is known
@@ -34,7 +35,7 @@ module _ (g : Graph) (G : Sound g) (B : Bounds g) where
       → Now g (w .0) (put b ws idle) (length ws) (conf (schedule g (w .1) b []) [] s)
   seal-start b seal w ws s h = (
     looks-on g (w .0) (put b ws idle) (length ws) (g .preds b) (finish (w .1) b ∷ []) 0 s (λ p i. G .range b p i) (record {
-      rest = subst (λ (f : ℕ → List (ℕ × ℕ)). Rest g f (suc (length ws)) s) same-work h;
+      rest = subst (λ (f : Work). Rest g f (suc (length ws)) s) same-work h;
       busy = λ c e. elim (same? c b) [
         | inl q ↦ inr (w .1, rw q (at-head b seal w ws (suc (length ws)) s h))
         | inr n ↦ inl (put-other b (w ∷ put b ws idle b) (put b ws idle) c n ∙ put-other b ws idle c n)
@@ -73,7 +74,7 @@ module _ (g : Graph) (G : Sound g) (B : Bounds g) where
   -- all of them
   pub pending-rest : (b : ℕ) → g .sealed b ≡ true → (ws : List (ℕ × ℕ)) (s : Form) → Rest g (put b ws idle) (length ws) s
       → Rest g idle 0 (settle-pending g b ws s)
-  pending-rest b seal [] s h = subst (λ (f : ℕ → List (ℕ × ℕ)). Rest g f 0 s) (put-id b idle) h
+  pending-rest b seal [] s h = subst (λ (f : Work). Rest g f 0 s) (put-id b idle) h
   pending-rest b seal (w ∷ ws) s h = pending-rest b seal ws (fill (read (depth g) g (w .0)) g b (w .1) s .1) (next-rest b seal w ws s h)
 
 -- a seal

@@ -18,7 +18,7 @@ use Rattle.meaning.specs.Path.{In}
 use Rattle.meaning.specs.Rooms.{Rooms}
 use Rattle.meaning.proofs.Maps.{put-same, put-other, false-true, some-none, ltb-yes, bool?, and-both, yes-ltb}
 use Rattle.meaning.proofs.Lists.{snds, has-in, in-has, in-cons}
-use Rattle.meaning.proofs.Inv.{pending}
+use Rattle.meaning.proofs.Inv.{pending, Work}
 use Rattle.meaning.proofs.Reading.{Sound}
 use Rattle.meaning.proofs.Sealing.{idle}
 use Rattle.meaning.proofs.Heights.{Within, run-within}
@@ -40,7 +40,7 @@ snds-length [] = refl
 snds-length (q ∷ l) = ap suc (snds-length l)
 
 -- of one form, where op is at work
-module _ (g : Graph) (op : ℕ → List (ℕ × ℕ)) (k : ℕ) (s : Form) (r : Rest g op k s) where
+module _ (g : Graph) (op : Work) (k : ℕ) (s : Form) (r : Rest g op k s) where
   open Rest r using (kp, inv, ranged)
 
   -- a parameter stands for a variable
@@ -100,7 +100,7 @@ module _ (g : Graph) (op : ℕ → List (ℕ × ℕ)) (k : ℕ) (s : Form) (r : 
   pub placed-room : length (s .placed) ≤ g .blocks
   placed-room = pigeon some (g .blocks) (s .placed) (ranged .logs .once) (λ b i. (b, ranged .logs .within b i, refl))
 
-pub rooms-of : (g : Graph) → Sound g → Bounds g → (op : ℕ → List (ℕ × ℕ)) (k : ℕ) (s : Form) → Rest g op k s → Rooms g s
+pub rooms-of : (g : Graph) → Sound g → Bounds g → (op : Work) (k : ℕ) (s : Form) → Rest g op k s → Rooms g s
 rooms-of g G B op k s r =
     let n = load-next s k (r .load) in
     record {
@@ -132,7 +132,7 @@ pub fed-always : (cs : List Call) (p i : ℕ) → let g = session cs .graph in
 fed-always cs p i lt z ip = let h = sure cs .whole in h .inv .passed .fed p i lt z ip ∙ ap length (all-kept ⊥ (session cs) h (getD (session cs .graph .dests p) i 0) z)
 
 -- At a moment of a run for v, where `later` is at work in the next runs, k parameters.
-pub record Moment (g : Graph) (v : ℕ) (later : ℕ → List (ℕ × ℕ)) (k : ℕ) (c : Conf) : Type 0 where
+pub record Moment (g : Graph) (v : ℕ) (later : Work) (k : ℕ) (c : Conf) : Type 0 where
   pub now : Now g v later k c
   pub rooms : Rooms g (c .form)
   pub tasks : length (c .tasks) ≤ call-room limits
@@ -141,7 +141,7 @@ pub record Moment (g : Graph) (v : ℕ) (later : ℕ → List (ℕ × ℕ)) (k :
   pub within : Within g v (call-room limits) (result-room limits) c
 
 module _ (g : Graph) (G : Sound g) (B : Bounds g) where
-  moment : (v : ℕ) (later : ℕ → List (ℕ × ℕ)) (k : ℕ) (c : Conf) → Now g v later k c → Within g v (call-room limits) (result-room limits) c
+  moment : (v : ℕ) (later : Work) (k : ℕ) (c : Conf) → Now g v later k c → Within g v (call-room limits) (result-room limits) c
       → Moment g v later k c
   moment v later k c h w = record {
     now = h;
@@ -152,7 +152,7 @@ module _ (g : Graph) (G : Sound g) (B : Bounds g) where
     within = w;
   }
 
-  pub moment-turn : (v : ℕ) (lv : v < length (g .types)) (later : ℕ → List (ℕ × ℕ)) (k : ℕ) (c : Conf) (n : ℕ) → Moment g v later k c
+  pub moment-turn : (v : ℕ) (lv : v < length (g .types)) (later : Work) (k : ℕ) (c : Conf) (n : ℕ) → Moment g v later k c
       → Moment g v later k (turns n g v c)
   moment-turn v lv later k c n m = moment v later k (turns n g v c) (turns-now g G B v lv later k n c (m .now)) (run-within g G v n (call-room limits) (result-room limits) c (m .within))
 

@@ -13,11 +13,11 @@ use Rattle.definition.specs.Session.{mark-sealed, seal-form}
 use Rattle.meaning.specs.Path.{In}
 use Rattle.meaning.proofs.Maps.{same?, put-same, put-other, false-true, put-id, put-put, put-at}
 use Rattle.meaning.proofs.Facts.{Edge, same, kept}
-use Rattle.meaning.proofs.Inv.{Grow, grow-refl, grow-trans, pending, Inv}
+use Rattle.meaning.proofs.Inv.{Grow, grow-refl, grow-trans, pending, Inv, Work}
 use Rattle.meaning.proofs.Lacking.{lacks, lacks-le}
 use Rattle.meaning.proofs.Reading.{Sound, filled, reads, Busy}
 
-abbrev pub idle : ℕ → List (ℕ × ℕ)
+abbrev pub idle : Work
 idle b = []
 
 pub shallow : (v : ℕ) (s : Form) (g : Graph) → lacks v s (g .blocks) < depth g
@@ -31,12 +31,12 @@ pub record Sealed (g : Graph) (E : Type 0) (s s′ : Form) : Type 0 where
 module _ (g : Graph) (E : Type 0) (G : Sound g) (b : ℕ) (seal : g .sealed b ≡ true) where
   -- the pending variables in turn
   all-settled : (ws : List (ℕ × ℕ)) (s : Form) (kp : ℕ → List ℕ) → Inv g E s kp (put b ws idle) → Sealed g E s (settle-pending g b ws s)
-  all-settled [] s kp h = record { kp = kp; inv = subst (λ (f : ℕ → List (ℕ × ℕ)). Inv g E s kp f) (put-id b idle) h; grow = grow-refl s }
+  all-settled [] s kp h = record { kp = kp; inv = subst (λ (f : Work). Inv g E s kp f) (put-id b idle) h; grow = grow-refl s }
   all-settled (w ∷ ws) s kp h =
       let v = w .0 in
       let one = filled g G v E (depth g) (read (depth g) g v) (reads g G v lv E (depth g)) b (w .1) ws s kp (put b (w ∷ ws) idle) seal (put-same b (w ∷ ws) idle) h busy (shallow v s g) in
       let s′ = fill (read (depth g) g v) g b (w .1) s .1 in
-      let rest = all-settled ws s′ (one .kp) (subst (λ (f : ℕ → List (ℕ × ℕ)). Inv g E s′ (one .kp) f) (put-put b ws (w ∷ ws) idle) (one .inv)) in
+      let rest = all-settled ws s′ (one .kp) (subst (λ (f : Work). Inv g E s′ (one .kp) f) (put-put b ws (w ∷ ws) idle) (one .inv)) in
       record { kp = rest .kp; inv = rest .inv; grow = grow-trans s s′ (settle-pending g b ws s′) (one .grow) (rest .grow) }
     where
       here : In (w .0, w .1) (pending g s (put b (w ∷ ws) idle) b)
@@ -56,7 +56,7 @@ module _ (g : Graph) (E : Type 0) (s : Form) (kp : ℕ → List ℕ) (h : Inv g 
   abbrev s′ : Form
   s′ = set-pending b [] s
 
-  abbrev op′ : ℕ → List (ℕ × ℕ)
+  abbrev op′ : Work
   op′ = put b (s .pending b) idle
 
   else-sealed : (c : ℕ) → c ≢ b → g′ .sealed c ≡ g .sealed c

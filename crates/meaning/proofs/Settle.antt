@@ -18,7 +18,7 @@ use Rattle.meaning.proofs.Facts.{same}
 use Rattle.meaning.proofs.Alias.{root-is, follow-root}
 use Rattle.meaning.proofs.Lists.{without-in, map-in, left-of, in-map}
 use Rattle.meaning.proofs.Inv.{Grow, grow-trans, def-grow, Param, Inv, nought-param, make-inv, make-grow, alias-inv, alias-grow, alias-keep}
-use Rattle.meaning.proofs.Inv.{alias-move, x-pending, x-par, grow-refl}
+use Rattle.meaning.proofs.Inv.{alias-move, x-pending, x-par, grow-refl, Work}
 use Rattle.meaning.proofs.Keeping.{Results, result-of, keep-inv}
 
 all-same : (y : ℕ) (ys : List ℕ) → every (eqb y) ys ≡ true → (z : ℕ) → In z (y ∷ ys) → z ≡ y
@@ -30,19 +30,19 @@ all-same y (u ∷ ys) e z (inr (inr i)) = all-same y ys (and-both (eqb y u) (eve
 abbrev relog : List (ℕ × ℕ) → List ℕ → ℕ → Form → Form
 relog z l m s = with-zeros (with-placed (with-makes s m) l) z
 
-pub relog-inv : (g : Graph) (E : Type 0) (z : List (ℕ × ℕ)) (l : List ℕ) (m : ℕ) (s : Form) (kp : ℕ → List ℕ) (op : ℕ → List (ℕ × ℕ))
+pub relog-inv : (g : Graph) (E : Type 0) (z : List (ℕ × ℕ)) (l : List ℕ) (m : ℕ) (s : Form) (kp : ℕ → List ℕ) (op : Work)
     → Inv g E s kp op → Inv g E (relog z l m s) kp op
 relog-inv g E z l m s kp op h =
     record { known = h .known; edge = h .edge; first = h .first; pend = h .pend; listed = h .listed; passed = h .passed; aliased = h .aliased }
 
 module _ (g : Graph) (E : Type 0) where
-  pub record Settled (s : Form) (op : ℕ → List (ℕ × ℕ)) (x : ℕ) (r : Got) : Type 0 where
+  pub record Settled (s : Form) (op : Work) (x : ℕ) (r : Got) : Type 0 where
     pub kp : ℕ → List ℕ
     pub inv : Inv g E (r .1) kp op
     pub grow : Grow s (r .1)
     pub alike : resolve (r .1) (r .0) ≡ resolve (r .1) x
 
-  module _ (s : Form) (kp : ℕ → List ℕ) (op : ℕ → List (ℕ × ℕ)) (h : Inv g E s kp op) (v b x : ℕ) (ws : List (ℕ × ℕ))
+  module _ (s : Form) (kp : ℕ → List ℕ) (op : Work) (h : Inv g E s kp op) (v b x : ℕ) (ws : List (ℕ × ℕ))
       (seal : g .sealed b ≡ true) (at : op b ≡ (v, x) ∷ ws) (rs : List ℕ) (len : length rs ≡ length (g .preds b))
       (res : E → Results v s (g .preds b) rs) (nd : Nodup (g .preds b)) where
     x-is : Param s b x

@@ -25,8 +25,9 @@ use Rattle.meaning.proofs.Sums.{pigeon}
 use Rattle.meaning.proofs.Mid.{at-work, finishes, Rest}
 use Rattle.meaning.proofs.Sure.{sure}
 use Rattle.meaning.proofs.Rooms.{Moment, resting}
+use Rattle.meaning.proofs.Inv.{Work}
 
-pub stored-of : (g : Graph) → Sound g → Bounds g → (op : ℕ → List (ℕ × ℕ)) (k : ℕ) (s : Form) → Rest g op k s → Stored g s
+pub stored-of : (g : Graph) → Sound g → Bounds g → (op : Work) (k : ℕ) (s : Form) → Rest g op k s → Stored g s
 stored-of g G B op k s r = let h = r .inv in let R = r .ranged in record {
   entry = λ w b e q. let k = h .known w b e q in (k .0, k .1, R .recorded .entries w b e q);
   own = R .recorded .owns;
@@ -64,7 +65,7 @@ stored-of g G B op k s r = let h = r .inv in let R = r .ranged in record {
 pub stored : (cs : List Call) → Stored (session cs .graph) (session cs .form)
 stored cs = let h = sure cs in stored-of (session cs .graph) (h .whole .sound) (h .safe .bounds) idle 0 (session cs .form) (resting (session cs) h)
 
-pub stored-now : (g : Graph) → Sound g → Bounds g → (v : ℕ) (later : ℕ → List (ℕ × ℕ)) (k : ℕ) (c : Conf) → Moment g v later k c
+pub stored-now : (g : Graph) → Sound g → Bounds g → (v : ℕ) (later : Work) (k : ℕ) (c : Conf) → Moment g v later k c
     → Stored g (c .form)
 stored-now g G B v later k c m = stored-of g G B (at-work v (c .tasks) later) (finishes (c .tasks) k) (c .form) (m .now .0 .rest)
 

@@ -25,6 +25,7 @@ use Rattle.meaning.proofs.Steady.{Steady, steady, sound-then, during-us
 use Rattle.meaning.proofs.Ranges.{Bounds}
 use Rattle.meaning.proofs.Rooms.{Moment}
 use Rattle.meaning.proofs.Holds.{holds-now}
+use Rattle.meaning.proofs.Inv.{Work}
 
 module _ (g : Graph) (v : ℕ) where
   -- a run that ends goes on from its first turn
@@ -44,7 +45,7 @@ module _ (g : Graph) (G : Sound g) (v : ℕ) where
       let more = taken-left n a b (turn g v (c .tasks) (c .results) (c .form)) (turn-within g G v a b (c .tasks) (c .results) (c .form) w) in
       omega (arith, one, more)
 
-module _ (g : Graph) (G : Sound g) (B : Bounds g) (v : ℕ) (rest : ℕ → List (ℕ × ℕ)) (k : ℕ) where
+module _ (g : Graph) (G : Sound g) (B : Bounds g) (v : ℕ) (rest : Work) (k : ℕ) where
   -- a run of which every moment is known, and which goes to r
   run-of : (c : Conf) (r : Got) → ((n : ℕ) → Moment g v rest k (turns n g v c)) → Goes g v c (conf [] (r .0 ∷ []) (r .1)) → Run g v c r
   run-of c r at q =
