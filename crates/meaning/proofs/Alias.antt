@@ -1,4 +1,4 @@
--- Alias chains: following targets ends, and linking a root to another root moves exactly the values that ended there.
+-- Following alias targets ends, and linking a root to another root moves exactly the values that ended there: no chain is longer than there are aliases.
 -- Assumes nothing.
 use Prim.Native.Nat.{ℕ, zero, suc, _<_, _≤_}
 use mathlib.Core.Path.{_≡_, refl, sym, ap, _∙_, subst}

@@ -1,5 +1,4 @@
--- A variable causes at most one parameter and one zero per block, as an entry records one value,
--- and an alias has one target. Assumes nothing.
+-- A variable causes at most one parameter and one zero per block: an entry records one value, and an alias has one target. Assumes nothing.
 use Prim.Native.Nat.{ℕ, _<_}
 use mathlib.Core.Path.{_≡_, refl, sym, ap, _∙_}
 use mathlib.Core.Option.{Option, none, some}

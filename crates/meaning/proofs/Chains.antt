@@ -1,5 +1,5 @@
--- Every alias chain ends, after every list of calls and at every moment of a run, and ends where the definition's resolving does: the bound on its links
--- is never met, as no chain is longer than there are aliases. A walk ends in one place, so resolving has one answer. Assumes nothing.
+-- Every alias chain ends, and ends where the definition's resolving does: the bound on its links is never met, as no chain is longer than there are aliases.
+-- A walk ends in one place, so resolving has one answer. Assumes nothing.
 use Prim.Native.Nat.{ℕ, zero, suc, _+_, _<_}
 use mathlib.Core.Path.{_≡_, refl, sym, ap, _∙_, subst}
 use mathlib.Core.Bool.{Bool, true, false}

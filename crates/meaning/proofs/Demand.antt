@@ -1,4 +1,5 @@
--- Demand 3, of every session. Assumes nothing.
+-- Demand 3, of every session: each call keeps the invariant of a session, and with the suppositions that gives the facts which hold along a path. Assumes
+-- nothing.
 use Prim.Native.Nat.{ℕ, suc}
 use mathlib.Core.Path.{_≡_, refl, sym, ap, _∙_}
 use mathlib.Core.Logic.{_≢_, inl, inr}

@@ -1,5 +1,4 @@
--- The facts of a finished session from which demand 3 follows along a path.
--- Assumes nothing.
+-- The facts of a finished session from which demand 3 follows along a path: definitions alone. Assumes nothing.
 use Prim.Native.Nat.{ℕ, _<_}
 use mathlib.Core.Path.{_≡_}
 use mathlib.Core.Logic.{_⊎_}

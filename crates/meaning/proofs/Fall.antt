@@ -1,4 +1,5 @@
--- What falls with each turn of the machine; and the heights of its stacks while a block is sealed. Assumes nothing.
+-- What is scheduled and could still be falls with each turn of the machine, and starts within the rooms of its stacks: predecessors are no more than
+-- destinations. Assumes nothing.
 use Prim.Native.Nat.{ℕ, suc, _+_, _<_, _≤_, _*_}
 use mathlib.Core.Path.{refl}
 use mathlib.Core.List.{List, [], _∷_, map, reverse}

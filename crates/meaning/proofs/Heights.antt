@@ -1,4 +1,5 @@
--- How high the two stacks of the machine grow: what is scheduled plus what could still be scheduled never grows. Assumes nothing.
+-- The two stacks of the machine grow no higher than they may at the start: what is scheduled and could still be scheduled never grows, as each block is
+-- opened once. Assumes nothing.
 use Prim.Native.Nat.{ℕ, zero, suc, _+_, _<_, _≤_}
 use mathlib.Core.Path.{_≡_, refl, ap, _∙_}
 use mathlib.Core.Logic.{inl, inr}

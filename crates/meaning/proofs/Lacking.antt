@@ -1,4 +1,5 @@
--- Blocks without a definition of a variable: no step of reading takes a definition away, so their number, and what they weigh, never grows, and falls
+-- Blocks without a definition of a variable: no step of reading takes a definition away, so their number, and what they weigh, never grows, and falls where
+-- one is recorded. Assumes nothing.
 use Prim.Native.Nat.{ℕ, _+_, _<_, _≤_}
 use mathlib.Core.Path.{_≡_, refl, sym, ap, _∙_, subst}
 use mathlib.Core.Logic.{inl, inr}
@@ -13,8 +14,6 @@ use Rattle.definition.specs.Form.{Form, Graph, def, with-args}
 use Rattle.definition.specs.Read.{new-param, settle-left, mark, Got, alias, feed-all, write}
 use Rattle.meaning.proofs.Sums.{sum, sum-most, sum-le, sum-more}
 use Rattle.meaning.proofs.Maps.{put₂-at, put₂-other, here?}
-
--- where one is recorded. Assumes nothing.
 
 -- a definition is recorded
 abbrev pub Has : Option ℕ → Type 0

@@ -1,4 +1,4 @@
--- Lists of numbers: membership, no duplicates, arguments by parameter. Assumes nothing.
+-- Lists: membership, no duplicates, arguments by parameter; by induction on the list. Assumes nothing.
 pub use Rattle.meaning.specs.Stored.{Nodup}
 use Prim.Native.Nat.{_<_, zero, ℕ, _+_, suc}
 use mathlib.Core.Path.{_≡_, refl, sym, ap, _∙_, subst}

@@ -1,4 +1,5 @@
--- The stack machine does what the recursive reading does, on every form. Assumes nothing.
+-- The stack machine does what the recursive reading does, on every form: by induction on the depth, as each level gives one more block a definition. Assumes
+-- nothing.
 use Prim.Native.Nat.{ℕ, zero, suc, _<_}
 use mathlib.Core.Path.{_≡_, refl, sym, ap, _∙_, subst}
 use mathlib.Core.Logic.{inl, inr}

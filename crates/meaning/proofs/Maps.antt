@@ -1,4 +1,4 @@
--- Tests, options and maps. Assumes nothing.
+-- Tests, options and maps, by cases. Assumes nothing.
 use Prim.Native.Nat.{ℕ, _<_, _≤_}
 use mathlib.Core.Option.{Option·some-injective, Option, some, none, Option·none-ne-some}
 use mathlib.Core.Path.{fun-ext, _≡_, refl, sym, ap, _∙_, subst}

@@ -1,4 +1,4 @@
--- Reading a variable keeps the invariant, and answers what the block then records. Assumes nothing.
+-- Reading a variable keeps the invariant, and answers what the block then records: by induction on the blocks that lack the variable. Assumes nothing.
 use Prim.Native.Nat.{ℕ, zero, suc, _<_}
 use mathlib.Core.Path.{_≡_, refl, sym, ap, _∙_, subst}
 use mathlib.Core.Logic.{⊎-map, _≢_, _⊎_, inl, inr}

@@ -1,4 +1,5 @@
--- Between runs of the machine: the invariant without edges, ranges and room hold before and after each use and each seal. Assumes nothing.
+-- Before and after each use and each seal the form is at rest: each is a run of the machine or several, and every turn keeps what a run starts with. Assumes
+-- nothing.
 use Prim.Native.Nat.{ℕ, zero, suc, _+_, _<_, _≤_}
 use mathlib.Core.Path.{_≡_, refl, sym, _∙_, subst}
 use mathlib.Core.Logic.{inl, inr}

@@ -1,4 +1,5 @@
--- The rooms of the tables, after every list of calls and at every moment of a use and of a seal. Assumes nothing.
+-- The tables fit their rooms, after every list of calls and at every moment of a run: each parameter of a block stands for a variable of its own, and every
+-- value and zero is paid for. Assumes nothing.
 use Prim.Native.Nat.{ℕ, suc, _+_, _<_, _≤_}
 use mathlib.Core.Path.{_≡_, refl, ap, _∙_}
 use mathlib.Core.Logic.{inl, inr}

@@ -1,4 +1,5 @@
--- All that the code may rely on, in one place: between calls, at every moment of a use, and at every moment of a seal. Assumes nothing.
+-- All that the code may rely on, in one place: between calls, at every moment of a use, and at every moment of a seal; it gathers what Rest and Rooms show.
+-- Assumes nothing.
 use Prim.Native.Nat.{ℕ, suc, _+_, _<_}
 use mathlib.Core.Path.{_≡_, _∙_}
 use mathlib.Core.Bool.{true, false}

@@ -1,4 +1,5 @@
--- Every number stored in a table is in range, after every list of calls and at every moment of a run; and how far a walk goes. Assumes nothing.
+-- Every number stored in a table is in range, after every list of calls and at every moment of a run, as ranges are kept; and a walk passes no block twice.
+-- Assumes nothing.
 pub use Rattle.meaning.proofs.Lists.{nil-of}
 use Prim.Native.Nat.{ℕ, zero, suc, _<_, _≤_}
 use mathlib.Core.Path.{_≡_, refl, sym, ap, _∙_, subst}

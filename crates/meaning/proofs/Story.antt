@@ -1,4 +1,4 @@
--- What a block's own acts have to do with the form. Assumes nothing.
+-- The form tells a block's own acts: each change of the form keeps what the acts before it said. Assumes nothing.
 use Prim.Native.Nat.{ℕ, _<_, _≤_}
 use mathlib.Core.Path.{_≡_, refl, sym, ap, _∙_, subst, fun-ext}
 use mathlib.Core.Logic.{_≢_, _⊎_, inl, inr}

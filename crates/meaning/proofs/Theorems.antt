@@ -1,4 +1,4 @@
--- What is proved of the definition, one theorem after the other, each with the file that proves it. Their words are in specs/. Assumes nothing.
+-- What is proved of the definition, one theorem after the other. Their words are in specs/, and each proof cites the one that shows it. Assumes nothing.
 use Prim.Native.Nat.{ℕ, _<_}
 use mathlib.Core.Path.{_≡_}
 use mathlib.Core.Bool.{true}

@@ -1,5 +1,5 @@
--- One run schedules at most `call-room limits` calls, and that many turns end with the recursion's answer, after every list of calls: with each turn
--- what is scheduled and could still be falls by one. Assumes nothing.
+-- What a run of the machine does, after every list of calls: with each turn what is scheduled and could still be falls by one, and every moment of it is
+-- known. Assumes nothing.
 use Prim.Native.Nat.{ℕ, zero, suc, _+_, _<_, _≤_}
 use mathlib.Core.Path.{_≡_, refl, sym, subst}
 use mathlib.Core.List.{List, [], _∷_}

@@ -1,4 +1,4 @@
--- The invariant of a session, and that each call keeps it. Assumes nothing.
+-- Each call keeps the invariant of a session: by the fourteen kinds, of which most change one table. Assumes nothing.
 use Prim.Native.Nat.{ℕ, zero, suc, _+_, _<_, _≤_}
 use mathlib.Core.Path.{_≡_, refl, sym, ap, _∙_, subst}
 use mathlib.Core.Logic.{_≢_, _⊎_, inl, inr}
