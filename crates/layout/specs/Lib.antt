@@ -1,0 +1,5 @@
+pub mod Cells
+pub mod Rows
+pub mod Layout
+pub mod Counts
+pub mod Offsets
