@@ -1,20 +1,23 @@
 -- Tables of rows: a row of the table is a row of its cells, and when that row's cells change the table has one row changed.
 -- Assumes nothing.
-use Prim.Native.Nat.{ℕ, zero, suc, _+_, _-_, _*_, _/_, _%_, _≤_, _<_}
-use mathlib.Core.Path.{_≡_, refl, sym, ap, _∙_, subst}
+use Prim.Native.Nat.{ℕ, _+_, _-_, _*_, _/_, _%_, _≤_, _<_}
+use mathlib.Core.Path.{_≡_, sym, ap, _∙_, subst}
 use mathlib.Core.Logic.{_≢_, _⊎_, inl, inr}
 use mathlib.Core.List.{List}
 use native.Mathlib.Omega.{arith}
 use native.Mathlib.Nat.{div-add-mod', mod-lt}
 use lib.Arith.{digits-div, digits-mod}
 use lib.ListN.{length, getD, set}
-use Rattle.meaning.proofs.Maps.{same?}
 use Rattle.layout.specs.Cells.{Table, blank, base, Holds, grid, cell, rows}
 use Rattle.layout.specs.Rows.{Row}
-use Rattle.layout.proofs.Cells.{below?, Changed, inside, holds-changed, store}
+use Rattle.layout.proofs.Cells.{Changed, inside, holds-changed, store}
+
+-- row r, place i, in one number and back: so the arguments of branch r at its destination i
+pub pair-at {ℓ} : {A : Type ℓ} (w : ℕ) (f : ℕ → ℕ → A) (r i : ℕ) → i < w → f ((r * w + i) / w) ((r * w + i) % w) ≡ f r i
+pair-at w f r i lt = ap (λ (q : ℕ). f q ((r * w + i) % w)) (digits-div r lt) ∙ ap (f r) (digits-mod r lt)
 
 pub grid-at : (w : ℕ) (f : ℕ → Table) (r i : ℕ) → i < w → grid w f (r * w + i) ≡ f r i
-grid-at w f r i lt = ap (λ (q : ℕ). f q ((r * w + i) % w)) (digits-div r lt) ∙ ap (f r) (digits-mod r lt)
+grid-at w f r i lt = pair-at w f r i lt
 
 -- a cell outside row c is in another row
 elsewhere : (w c j : ℕ) → 0 < w → (j < c * w) ⊎ (c * w + w ≤ j) → j / w ≢ c

@@ -1,24 +1,17 @@
 -- One row in the cells: what is read from it, and what it becomes by a push and by a swap-remove. Each is a few stores into the row's own cells.
 -- Assumes nothing.
-use Prim.Native.Nat.{ℕ, zero, suc, _+_, _-_, _≤_, _<_}
+use Prim.Native.Nat.{ℕ, zero, suc, _+_, _≤_, _<_}
 use mathlib.Core.Path.{_≡_, refl, sym, ap, _∙_, subst}
 use mathlib.Core.Logic.{_≢_, _⊎_, inl, inr}
-use mathlib.Core.Bool.{Bool, true, false, cond}
-use mathlib.Core.List.{List, [], _∷_, _++_, map}
+use mathlib.Core.List.{List, [], _∷_, _++_}
 use native.Mathlib.Omega.{arith}
-use native.Mathlib.Nat.{not-suc-le-zero, le-of-suc-le-suc}
-use native.Mathlib.Numerals.{add-one}
-use lib.Dec.{eqb}
 use lib.ListN.{length, getD, set, length-append, length-set, List·getD-append, List·getD-eq-default}
 use lib.Seq.{getD-set-same, getD-set-other, getD-append-seam}
 use Rattle.entity.specs.Limits.{limits, zero-room}
-use Rattle.definition.specs.Base.{put, has, position, if_then_else_, _=?_}
-use Rattle.definition.specs.Session.{last, but-last, swap-out}
-use Rattle.meaning.proofs.Maps.{same?, put-same, put-other, put-at, eqb-same, eqb-diff}
-use Rattle.meaning.proofs.Lists.{Nodup}
-use Rattle.meaning.specs.Path.{In}
+use Rattle.definition.specs.Base.{put}
+use Rattle.meaning.proofs.Maps.{same?, put-other, put-at}
 use Rattle.layout.specs.Cells.{Table, cell}
-use Rattle.layout.specs.Rows.{Row, Readable, Pushable, pushed, swapped}
+use Rattle.layout.specs.Rows.{Row, Readable, Pushable, pushed}
 use Rattle.layout.proofs.Cells.{below?, Changed}
 
 -- ---- stores into the cells of a row

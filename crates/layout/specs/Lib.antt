@@ -3,3 +3,5 @@ pub mod Rows
 pub mod Layout
 pub mod Counts
 pub mod Offsets
+pub mod Same
+pub mod Outcome
