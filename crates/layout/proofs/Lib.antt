@@ -1,0 +1,11 @@
+pub mod Cells
+pub mod Rows
+pub mod Grids
+pub mod Loops
+pub mod Searches
+pub mod Removals
+pub mod Swaps
+pub mod Values
+pub mod Stacks
+pub mod Same
+pub mod Outcome
