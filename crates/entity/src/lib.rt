@@ -120,15 +120,15 @@ pub const CALL_ROOM: usize = BLOCKS as usize * (1 + DESTS as usize);
 pub const RESULT_ROOM: usize = 1 + BLOCKS as usize * DESTS as usize;
 
 // A row that holds a list: its count, then its entries.
-const TYPE_ROW: usize = 1 + VARIABLES as usize;
+pub const TYPE_ROW: usize = 1 + VARIABLES as usize;
 
-const DEST_ROW: usize = 1 + DESTS as usize;
+pub const DEST_ROW: usize = 1 + DESTS as usize;
 
-const ZERO_ROW: usize = 1 + ZERO_ROOM;
+pub const ZERO_ROW: usize = 1 + ZERO_ROOM;
 
-const PARAM_ROW: usize = 1 + PARAM_ROOM;
+pub const PARAM_ROW: usize = 1 + PARAM_ROOM;
 
-const PRED_ROW: usize = 1 + PRED_ROOM;
+pub const PRED_ROW: usize = 1 + PRED_ROOM;
 
 // The cells that each of the three lent tables needs.
 pub const GRAPH_NEED: usize = 1

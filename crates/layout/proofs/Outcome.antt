@@ -13,7 +13,8 @@ use Rattle.entity.specs.Limits.{limits}
 use Rattle.definition.specs.Base.{_=?_, _<?_}
 use Rattle.definition.specs.Session.{Call, Done, State, Reply, no, ok, reply, after, step, run, empty, session}
 use Rattle.layout.specs.Layout.{graph-sizes, graph-tables, form-sizes, form-tables, work-sizes, work-tables}
-use Rattle.layout.specs.Outcome.{Lent, Lengths, lengths, calls, unfit, short, outcome, needs, shown, first, past, followed-by}
+use Rattle.definition.specs.Whole.{calls, Lengths, needs, short, unfit}
+use Rattle.layout.specs.Outcome.{Lent, lengths, outcome, shown, first, past, followed-by}
 use Rattle.layout.proofs.Cells.{render-length}
 
 -- ---- an answer a call

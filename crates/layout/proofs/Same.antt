@@ -15,7 +15,8 @@ use Rattle.definition.specs.Form.{Graph, Form, Info, Sort, made, param, nought,
 use Rattle.definition.specs.Session.{Call, session, bit}
 use Rattle.meaning.proofs.Rooms.{Rooms, rooms}
 use Rattle.layout.specs.Cells.{Table, blank, cell, rows, upto}
-use Rattle.layout.specs.Layout.{sort-number, plus-one, firsts, seconds, dest-row, pred-row, zero-row, param-row, graph-sizes, graph-tables, form-sizes, form-tables, render-graph, render-form}
+use Rattle.definition.specs.Tables.{sort-number, plus-one}
+use Rattle.layout.specs.Layout.{firsts, seconds, dest-row, pred-row, zero-row, param-row, graph-sizes, graph-tables, form-sizes, form-tables, render-graph, render-form}
 use Rattle.layout.specs.Same.{Same-graph, Same-form}
 use Rattle.layout.proofs.Cells.{render-same}
 use Rattle.layout.proofs.Grids.{pair-at, grid-at}
@@ -111,17 +112,14 @@ module _ (g g′ : Graph) (s s′ : Form) (R : Rooms g s) (R′ : Rooms g′ s�
             (cell-same zero-row (firsts (s .zeros)) (firsts (s′ .zeros)) (omega (arith, R .zeros, length-map (s .zeros) first)) (omega (arith, R′ .zeros, length-map (s′ .zeros) first)) (at 7))
             (cell-same zero-row (seconds (s .zeros)) (seconds (s′ .zeros)) (omega (arith, R .zeros, length-map (s .zeros) second)) (omega (arith, R′ .zeros, length-map (s′ .zeros) second)) (at 8));
         params = λ b lt. rows-same (limits .blocks) param-row (s .params) (s′ .params) b lt (omega (arith, R .params b)) (omega (arith, R′ .params b)) (at 9);
-        pending = λ b lt. pairs-same (s .pending b) (s′ .pending b)
-            (rows-same (limits .blocks) param-row (λ c. firsts (s .pending c)) (λ c. firsts (s′ .pending c)) b lt
-            (omega (arith, R .waits b, length-map (s .pending b) first)) (omega (arith, R′ .waits b, length-map (s′ .pending b) first)) (at 10))
-            (rows-same (limits .blocks) param-row (λ c. seconds (s .pending c)) (λ c. seconds (s′ .pending c)) b lt
-            (omega (arith, R .waits b, length-map (s .pending b) second)) (omega (arith, R′ .waits b, length-map (s′ .pending b) second)) (at 11));
+        pending = λ b lt. rows-same (limits .blocks) param-row (λ c. firsts (s .pending c)) (λ c. firsts (s′ .pending c)) b lt
+            (omega (arith, R .waits b, length-map (s .pending b) first)) (omega (arith, R′ .waits b, length-map (s′ .pending b) first)) (at 10);
         defs = λ v b lv lb. option-same (def s v b) (def s′ v b)
-            (sym (grid-at (limits .blocks) (λ v b. plus-one (def s v b)) v b lb) ∙ at 12 (v * limits .blocks + b) (digits-lt lv lb) ∙ grid-at (limits .blocks) (λ v b. plus-one (def s′ v b)) v b lb);
+            (sym (grid-at (limits .blocks) (λ v b. plus-one (def s v b)) v b lb) ∙ at 11 (v * limits .blocks + b) (digits-lt lv lb) ∙ grid-at (limits .blocks) (λ v b. plus-one (def s′ v b)) v b lb);
         args = λ p i lp li.
             sym (pair-at (limits .dests) (s .args) p i li)
             ∙ rows-same (limits .blocks * limits .dests) param-row (arg-rows s) (arg-rows s′) (p * limits .dests + i) (digits-lt lp li)
-            (omega (arith, R .args ((p * limits .dests + i) / limits .dests) ((p * limits .dests + i) % limits .dests))) (omega (arith, R′ .args ((p * limits .dests + i) / limits .dests) ((p * limits .dests + i) % limits .dests))) (at 13)
+            (omega (arith, R .args ((p * limits .dests + i) / limits .dests) ((p * limits .dests + i) % limits .dests))) (omega (arith, R′ .args ((p * limits .dests + i) / limits .dests) ((p * limits .dests + i) % limits .dests))) (at 12)
             ∙ pair-at (limits .dests) (s′ .args) p i li;
       }
     where

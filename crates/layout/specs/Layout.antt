@@ -2,24 +2,15 @@
 -- Assumes nothing.
 use Prim.Native.Nat.{ℕ, suc, _*_, _/_, _%_}
 use mathlib.Core.Path.{_≡_, refl}
-use mathlib.Core.Option.{Option, none, some}
 use mathlib.Core.List.{List, [], _∷_, map}
 use lib.ListN.{length}
 use Rattle.entity.specs.Limits.{limits, row-cells, zero-room, value-room, param-room, pred-room, call-room, result-room, graph-need, form-need, work-need}
-use Rattle.definition.specs.Form.{Graph, Form, Sort, made, param, nought, def}
+use Rattle.definition.specs.Form.{Graph, Form, def}
 use Rattle.definition.specs.Session.{bit}
+use Rattle.definition.specs.Tables.{sort-number, plus-one}
 use Rattle.meaning.specs.Machine.{Task, look, finish}
 use Rattle.layout.specs.declared.Counts.{Counts}
 use Rattle.layout.specs.Cells.{Table, sum, render, Holds, grid, cell, rows, upto, pile}
-
-abbrev pub sort-number : Sort → ℕ
-sort-number made = 0
-sort-number param = 1
-sort-number nought = 2
-
-abbrev pub plus-one : Option ℕ → ℕ
-plus-one none = 0
-plus-one (some x) = suc x
 
 abbrev pub firsts : List (ℕ × ℕ) → List ℕ
 firsts = map (λ w. w .0)
@@ -59,7 +50,7 @@ graph-tables g =
 abbrev pub form-sizes : List ℕ
 form-sizes =
     1 ∷ 1 ∷ value-room limits ∷ value-room limits ∷ value-room limits ∷ value-room limits ∷ pred-row ∷ zero-row ∷ zero-row
-    ∷ limits .blocks * param-row ∷ limits .blocks * param-row ∷ limits .blocks * param-row
+    ∷ limits .blocks * param-row ∷ limits .blocks * param-row
     ∷ limits .variables * limits .blocks ∷ limits .blocks * (limits .dests * param-row) ∷ []
 
 abbrev pub form-tables : Form → List Table
@@ -75,9 +66,8 @@ form-tables s =
     ∷ cell (seconds (s .zeros))  -- 8: the blocks
     ∷ rows param-row (s .params)  -- 9
     ∷ rows param-row (λ b. firsts (s .pending b))  -- 10: the variables
-    ∷ rows param-row (λ b. seconds (s .pending b))  -- 11: their parameters
-    ∷ grid (limits .blocks) (λ v b. plus-one (def s v b))  -- 12
-    ∷ rows param-row (λ r. s .args (r / limits .dests) (r % limits .dests))  -- 13
+    ∷ grid (limits .blocks) (λ v b. plus-one (def s v b))  -- 11
+    ∷ rows param-row (λ r. s .args (r / limits .dests) (r % limits .dests))  -- 12
     ∷ []
 
 -- A scheduled call in two cells: 0 and the block to read at; or the parameter plus one and its block.

@@ -20,10 +20,10 @@ widths = refl
 graph-starts : starts graph-sizes ≡ 0 ∷ 1 ∷ 66 ∷ 130 ∷ 194 ∷ 770 ∷ 4930 ∷ []
 graph-starts = refl
 
--- values, made values, target, sort, type, block, placed, zero calls, zero blocks, parameters, pending variables, pending parameters,
+-- values, made values, target, sort, type, block, placed, zero calls, zero blocks, parameters, pending variables,
 -- last definitions, arguments
 form-starts : starts form-sizes
-    ≡ 0 ∷ 1 ∷ 2 ∷ 12290 ∷ 24578 ∷ 36866 ∷ 49154 ∷ 49219 ∷ 53316 ∷ 57413 ∷ 61573 ∷ 65733 ∷ 69893 ∷ 73989 ∷ 107269 ∷ []
+    ≡ 0 ∷ 1 ∷ 2 ∷ 12290 ∷ 24578 ∷ 36866 ∷ 49154 ∷ 49219 ∷ 53316 ∷ 57413 ∷ 61573 ∷ 65733 ∷ 69829 ∷ 103109 ∷ []
 form-starts = refl
 
 -- scheduled calls' values, their blocks, results

@@ -1,12 +1,11 @@
 -- What a session does to all that it is lent.
 -- Assumes nothing.
 use Prim.Native.Nat.{ℕ}
-use mathlib.Core.Bool.{Bool, not, _&&_, _||_}
-use mathlib.Core.List.{List, [], _∷_, _++_, map}
+use mathlib.Core.List.{List, [], _++_, map}
 use lib.ListN.{length, take, drop}
-use Rattle.entity.specs.Limits.{limits, graph-need, form-need, work-need}
-use Rattle.definition.specs.Base.{_=?_, _<?_, if_then_else_}
-use Rattle.definition.specs.Session.{Call, State, session}
+use Rattle.definition.specs.Base.{if_then_else_}
+use Rattle.definition.specs.Session.{State, session}
+use Rattle.definition.specs.Whole.{calls, Lengths, needs, short, unfit}
 use Rattle.layout.specs.Layout.{render-graph, render-form, render-work}
 
 -- the lists that a session changes, and their lengths
@@ -17,27 +16,8 @@ pub record Lent : Type 0 where
   pub form : List ℕ
   pub work : List ℕ
 
-pub record Lengths : Type 0 where
-  pub codes : ℕ
-  pub numbers : ℕ
-  pub graph : ℕ
-  pub form : ℕ
-  pub work : ℕ
-
 abbrev pub lengths : Lent → Lengths
 lengths t = record { codes = length (t .codes); numbers = length (t .numbers); graph = length (t .graph); form = length (t .form); work = length (t .work) }
-
--- the calls, as long as all four lists go on
-abbrev pub calls : List ℕ → List ℕ → List ℕ → List ℕ → List Call
-calls [] xs ys zs = []
-calls (k ∷ ks) [] ys zs = []
-calls (k ∷ ks) (x ∷ xs) [] zs = []
-calls (k ∷ ks) (x ∷ xs) (y ∷ ys) [] = []
-calls (k ∷ ks) (x ∷ xs) (y ∷ ys) (z ∷ zs) = record { kind = k; x = x; y = y; z = z } ∷ calls ks xs ys zs
-
--- what n calls need of each list
-abbrev pub needs : ℕ → Lengths
-needs n = record { codes = n; numbers = n; graph = graph-need limits; form = form-need limits; work = work-need limits }
 
 -- a session's answers and tables, each list as long as is needed; the stacks are empty
 abbrev pub shown : State → Lent
@@ -76,14 +56,6 @@ followed-by t u = record {
   form = t .form ++ u .form;
   work = t .work ++ u .work;
 }
-
--- the call lists differ in length, or are too long
-abbrev pub unfit : List ℕ → List ℕ → List ℕ → List ℕ → Bool
-unfit ks xs ys zs = not (length xs =? length ks && length ys =? length ks && length zs =? length ks) || limits .calls <? length ks
-
--- a list is shorter than this
-abbrev pub short : Lengths → Lengths → Bool
-short m t = t .codes <? m .codes || t .numbers <? m .numbers || t .graph <? m .graph || t .form <? m .form || t .work <? m .work
 
 abbrev pub outcome : List ℕ → List ℕ → List ℕ → List ℕ → Lent → ℕ × Lent
 outcome ks xs ys zs t =

@@ -4,6 +4,7 @@ use Prim.Native.Nat.{ℕ, _<_}
 use mathlib.Core.Path.{_≡_}
 use Rattle.entity.specs.Limits.{limits}
 use Rattle.definition.specs.Form.{Graph, Form, def}
+use Rattle.layout.specs.Layout.{firsts}
 
 pub record Same-graph (g g′ : Graph) : Type 0 where
   pub blocks : g .blocks ≡ g′ .blocks
@@ -21,6 +22,6 @@ pub record Same-form (s s′ : Form) : Type 0 where
   pub placed : s .placed ≡ s′ .placed
   pub zeros : s .zeros ≡ s′ .zeros
   pub params : (b : ℕ) → b < limits .blocks → s .params b ≡ s′ .params b
-  pub pending : (b : ℕ) → b < limits .blocks → s .pending b ≡ s′ .pending b
+  pub pending : (b : ℕ) → b < limits .blocks → firsts (s .pending b) ≡ firsts (s′ .pending b)
   pub defs : (v b : ℕ) → v < limits .variables → b < limits .blocks → def s v b ≡ def s′ v b
   pub args : (p i : ℕ) → p < limits .blocks → i < limits .dests → s .args p i ≡ s′ .args p i

@@ -9,31 +9,18 @@ use entity::Block;
 use entity::Branch;
 use entity::Value;
 
-// Cells of a row: its count, then room for its entries.
-pub const TYPE_ROW: usize = 1 + entity::VARIABLES as usize;
-
-pub const DEST_ROW: usize = 1 + entity::DESTS as usize;
-
-pub const PRED_ROW: usize = 1 + entity::PRED_ROOM;
-
-pub const ZERO_ROW: usize = 1 + entity::ZERO_ROOM;
-
-pub const PARAM_ROW: usize = 1 + entity::PARAM_ROOM;
-
 // Where each table of the graph starts.
 pub const BLOCK_COUNT: usize = 0;
 
 pub const TYPES: usize = BLOCK_COUNT + 1;
 
-pub const BRANCHES: usize = TYPES + TYPE_ROW;
+pub const BRANCHES: usize = TYPES + entity::TYPE_ROW;
 
 pub const SEALED: usize = BRANCHES + entity::BLOCKS as usize;
 
 pub const DESTS: usize = SEALED + entity::BLOCKS as usize;
 
-pub const PREDS: usize = DESTS + entity::BLOCKS as usize * DEST_ROW;
-
-pub const GRAPH_NEED: usize = PREDS + entity::BLOCKS as usize * PRED_ROW;
+pub const PREDS: usize = DESTS + entity::BLOCKS as usize * entity::DEST_ROW;
 
 // Where each table of the form starts.
 pub const VALUE_COUNT: usize = 0;
@@ -50,21 +37,17 @@ pub const BLOCK: usize = TYPE + entity::VALUE_ROOM;
 
 pub const PLACED: usize = BLOCK + entity::VALUE_ROOM;
 
-pub const ZERO_CALLS: usize = PLACED + PRED_ROW;
+pub const ZERO_CALLS: usize = PLACED + entity::PRED_ROW;
 
-pub const ZERO_BLOCKS: usize = ZERO_CALLS + ZERO_ROW;
+pub const ZERO_BLOCKS: usize = ZERO_CALLS + entity::ZERO_ROW;
 
-pub const PARAMS: usize = ZERO_BLOCKS + ZERO_ROW;
+pub const PARAMS: usize = ZERO_BLOCKS + entity::ZERO_ROW;
 
-pub const PENDING_VARS: usize = PARAMS + entity::BLOCKS as usize * PARAM_ROW;
+pub const PENDING: usize = PARAMS + entity::BLOCKS as usize * entity::PARAM_ROW;
 
-pub const PENDING_PARAMS: usize = PENDING_VARS + entity::BLOCKS as usize * PARAM_ROW;
-
-pub const DEFS: usize = PENDING_PARAMS + entity::BLOCKS as usize * PARAM_ROW;
+pub const DEFS: usize = PENDING + entity::BLOCKS as usize * entity::PARAM_ROW;
 
 pub const ARGS: usize = DEFS + (entity::VARIABLES * entity::BLOCKS) as usize;
-
-pub const FORM_NEED: usize = ARGS + (entity::BLOCKS * entity::DESTS) as usize * PARAM_ROW;
 
 // Where each table of the work stacks starts.
 pub const CALL_VALUES: usize = 0;
@@ -72,8 +55,6 @@ pub const CALL_VALUES: usize = 0;
 pub const CALL_BLOCKS: usize = CALL_VALUES + entity::CALL_ROOM;
 
 pub const RESULTS: usize = CALL_BLOCKS + entity::CALL_ROOM;
-
-pub const WORK_NEED: usize = RESULTS + entity::RESULT_ROOM;
 
 // The starts for a host, and last the need. Their contracts hold each constant above to the sizes that the specs work out.
 pub fn graph_starts() -> [usize; 7]
@@ -86,11 +67,11 @@ pub fn graph_starts() -> [usize; 7]
         SEALED,
         DESTS,
         PREDS,
-        GRAPH_NEED,
+        entity::GRAPH_NEED,
     ]
 }
 
-pub fn form_starts() -> [usize; 15]
+pub fn form_starts() -> [usize; 14]
     ensures { λ r. ⌜ r ≡ starts form-sizes ⌝ }
 {
     [
@@ -104,18 +85,17 @@ pub fn form_starts() -> [usize; 15]
         ZERO_CALLS,
         ZERO_BLOCKS,
         PARAMS,
-        PENDING_VARS,
-        PENDING_PARAMS,
+        PENDING,
         DEFS,
         ARGS,
-        FORM_NEED,
+        entity::FORM_NEED,
     ]
 }
 
 pub fn work_starts() -> [usize; 4]
     ensures { λ r. ⌜ r ≡ starts work-sizes ⌝ }
 {
-    [CALL_VALUES, CALL_BLOCKS, RESULTS, WORK_NEED]
+    [CALL_VALUES, CALL_BLOCKS, RESULTS, entity::WORK_NEED]
 }
 
 // A scheduled call of the lookup machine: read at a branch's block, or settle the parameter of a block by its predecessors' results.
