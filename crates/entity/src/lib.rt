@@ -5,9 +5,7 @@ ghost use Rattle.entity.specs.Types.{number-of, type-with, width-of, zer
 
 // Four kinds of number, each a type of its own, so that one can't be taken for another.
 pub struct Block(pub u32);
-
 pub struct Variable(pub u32);
-
 pub struct Value(pub u32);
 
 // A branch bears the number of its block.
@@ -89,24 +87,15 @@ impl Type {
 
 // The limits: to raise one, edit its number here and in specs/Limits.antt.
 pub const BLOCKS: u32 = 64;
-
 pub const VARIABLES: u32 = 64;
-
 pub const DESTS: u32 = 8;
-
 pub const MADE: u32 = 4096;
-
 pub const CALLS: u32 = 16384;
 
 // The rooms that follow, as specs/Limits.antt works them out.
 pub const ZERO_ROOM: usize = (BLOCKS * VARIABLES) as usize;
-
 pub const VALUE_ROOM: usize = (MADE as usize) + 2 * ZERO_ROOM;
-
 pub const PARAM_ROOM: usize = VARIABLES as usize;
-
 pub const PRED_ROOM: usize = BLOCKS as usize;
-
 pub const CALL_ROOM: usize = (BLOCKS * (DESTS + 1)) as usize;
-
 pub const RESULT_ROOM: usize = (BLOCKS * DESTS + 1) as usize;
