@@ -9,3 +9,4 @@ pub mod Values
 pub mod Stacks
 pub mod Same
 pub mod Outcome
+pub mod Zeros
