@@ -30,7 +30,7 @@ apart (n ∷ ns) t zero h = absurd (not-suc-le-zero h)
 apart (n ∷ ns) zero (suc u) h = omega arith
 apart (n ∷ ns) (suc t) (suc u) h = omega (arith, apart ns t u (le-of-suc-le-suc h))
 
-within : (sizes : List ℕ) (t j : ℕ) → j < getD sizes t 0 → base sizes t + j < sum sizes
+pub within : (sizes : List ℕ) (t j : ℕ) → j < getD sizes t 0 → base sizes t + j < sum sizes
 within [] t j h = absurd (not-suc-le-zero h)
 within (n ∷ ns) zero j h = omega arith
 within (n ∷ ns) (suc t) j h = omega (arith, within ns t j h)

@@ -1,11 +1,12 @@
-pub mod Cells
-pub mod Rows
-pub mod Grids
-pub mod Loops
-pub mod Searches
-pub mod Removals
-pub mod Swaps
-pub mod Values
-pub mod Stacks
-pub mod Same
-pub mod Outcome
+pub mod Cells  -- tables in cells: read, store, change a part; the render
+pub mod Rows  -- one row: read, push
+pub mod Grids  -- tables of rows, and tables that are one row
+pub mod Loops  -- the loops over a row, a turn at a time
+pub mod Searches  -- find in a row
+pub mod Removals  -- remove from a row keeping order; clear a row
+pub mod Swaps  -- remove from a row by moving the last entry
+pub mod Values  -- columns with a cell for each value
+pub mod Stacks  -- push, read and pop the work stacks
+pub mod Same  -- the cells fix the tables
+pub mod Outcome  -- what a session keeps
+pub mod Zeros  -- zero cells show the empty state
