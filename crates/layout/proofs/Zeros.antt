@@ -45,7 +45,7 @@ module _ (l : List ℕ) where
   zeros-form =
       zeros-hold form-sizes (form-tables (empty .form))
       (nothing & nothing & no-value _ & no-value _ & no-value _ & no-value _ & no-entry & no-entry & no-entry
-      & no-row param-row & no-row param-row & no-row param-row & nothing & no-row param-row & end)
+      & no-row param-row & no-row param-row & nothing & no-row param-row & end)
 
   pub zeros-work : sum work-sizes ≤ length l → ((i : ℕ) → i < sum work-sizes → getD l i 0 ≡ 0) → Holds work-sizes l (work-tables [] [])
   zeros-work = zeros-hold work-sizes (work-tables [] []) (nothing & nothing & nothing & end)
