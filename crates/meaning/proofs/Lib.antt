@@ -26,3 +26,5 @@ pub mod Rooms
 pub mod Port
 pub mod Stored
 pub mod Steady
+pub mod Decide
+pub mod Suppositions
