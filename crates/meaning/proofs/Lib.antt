@@ -1,3 +1,5 @@
+pub mod Agree
+pub mod Against
 pub mod Maps
 pub mod Alias
 pub mod Facts
@@ -28,3 +30,5 @@ pub mod Stored
 pub mod Steady
 pub mod Decide
 pub mod Suppositions
+pub mod Trace
+pub mod Needed

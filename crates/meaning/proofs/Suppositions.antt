@@ -12,7 +12,7 @@ use Rattle.definition.specs.Base.{put}
 use Rattle.definition.specs.Session.{Call, Done, State, session}
 use Rattle.meaning.specs.Path.{In, Act, makes, gives, uses, acts, declares, defines, Supposed, Faithful, Fed}
 use Rattle.meaning.specs.Suppositions.{Had, On-time, All-sealed, None-enters-0, All-declared, None-late, Own-values, defines-none, on-time?, owned?, all-sealed?, none-enters-0?, all-declared?, none-late?, own-values?, supposed?}
-use Rattle.meaning.specs.Fork.{fork}
+use Rattle.meaning.proofs.Agree.{fork}
 use Rattle.meaning.proofs.Maps.{same?, eqb-eq, put-same, put-at, put-other}
 use Rattle.meaning.proofs.Facts.{cur}
 use Rattle.meaning.proofs.Story.{cur-append}
@@ -209,7 +209,7 @@ module _ (cs : List Call) where
   pub supposed-complete : Supposed t → supposed? t ≡ true
   supposed-complete = supposed-decided .complete
 
--- The suppositions can be met, by a list that is not trivial (specs/Fork.antt): its uses are faithful, its destinations fed.
+-- The suppositions can be met, by a list that is not trivial (Agree.antt): its uses are faithful, its destinations fed.
 pub fork-meets : supposed? (session fork) ≡ true
 fork-meets = refl
 
