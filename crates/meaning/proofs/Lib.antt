@@ -1,3 +1,5 @@
+pub mod Agree
+pub mod Against
 pub mod Maps
 pub mod Alias
 pub mod Facts
@@ -30,3 +32,7 @@ pub mod Port
 pub mod Stored
 pub mod Steady
 pub mod Turns
+pub mod Decide
+pub mod Suppositions
+pub mod Trace
+pub mod Needed
