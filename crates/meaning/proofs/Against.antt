@@ -4,7 +4,7 @@ use Prim.Native.Nat.{ℕ}
 use mathlib.Core.Path.{_≡_, refl}
 use mathlib.Core.List.{List, [], _∷_, _++_}
 use Rattle.definition.specs.Session.{Call, session}
-use Rattle.meaning.specs.Calls.{declare-var, make-value, define, use-var, new-branch, new-dest, seal-all, blocks, sets, jumps}
+use Rattle.definition.specs.Calls.{declare-var, make-value, define, use-var, new-branch, new-dest, seal-all, blocks, sets, jumps}
 use Rattle.meaning.specs.Trace.{finds}
 
 -- A zero holds 0, an unset value 1, a made value 2.

@@ -4,7 +4,7 @@ use Prim.Native.Nat.{ℕ, _+_, _*_}
 use mathlib.Core.Path.{_≡_, refl}
 use mathlib.Core.List.{List, [], _∷_, _++_}
 use Rattle.definition.specs.Session.{Call, session}
-use Rattle.meaning.specs.Calls.{declare-var, define, use-var, seal, seal-all, blocks, sets, jumps}
+use Rattle.definition.specs.Calls.{declare-var, define, use-var, seal, seal-all, blocks, sets, jumps}
 use Rattle.meaning.specs.Trace.{finds}
 
 -- The swap, case J of document 01. Block 0 gives variables 0 and 1 their values; block 1 uses both, answers 2 and 3, gives each the other's answer, and goes

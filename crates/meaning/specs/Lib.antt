@@ -2,7 +2,6 @@ pub mod Path
 pub mod Machine
 pub mod Causes
 pub mod Turns
-pub mod Calls
 pub mod Trace
 pub mod Suppositions
 pub mod Needed
