@@ -1,6 +1,7 @@
 pub mod Cells
 pub mod Rows
 pub mod Grids
+pub mod Tables
 pub mod Loops
 pub mod Searches
 pub mod Removals

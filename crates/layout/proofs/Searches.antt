@@ -7,7 +7,7 @@ use mathlib.Core.List.{List, [], _∷_}
 use native.Mathlib.Omega.{arith}
 use native.Mathlib.Numerals.{add-one}
 use lib.Dec.{eqb, ltb}
-use borrow.Author.Tests.{lt-ltb, le-ltb}
+use borrow.Author.Tests.{lt-ltb, le-ltb, ltb-true}
 use lib.ListN.{length, getD}
 use Rattle.definition.specs.Base.{has, position}
 use Rattle.layout.specs.Rows.{Row, seek}
@@ -30,6 +30,9 @@ position-has n x (y ∷ ys) = by (eqb x y) (position-has (suc n) x ys)
     by : (z : Bool) → ltb (position (suc n) x ys) (suc n + length ys) ≡ has x ys → ltb (cond z n (position (suc n) x ys)) (n + suc (length ys)) ≡ z || has x ys
     by true rec = lt-ltb n (n + suc (length ys)) (omega arith)
     by false rec = let e : n + suc (length ys) ≡ suc n + length ys = omega arith in rw e rec
+
+pub has-place : (x : ℕ) (xs : List ℕ) → has x xs ≡ true → position 0 x xs < length xs
+has-place x xs h = omega (arith, ltb-true (position 0 x xs) (0 + length xs) (position-has 0 x xs ∙ h))
 
 module _ (l : List ℕ) (a w : ℕ) (xs : List ℕ) (r : Row l a w xs) (x : ℕ) where
   pub row-place : seek l a x (getD l a 0) 0 ≡ position 0 x xs
