@@ -1,6 +1,7 @@
 pub mod Cells  -- tables in cells: read, store, change a part; the render
 pub mod Rows  -- one row: read, push
 pub mod Grids  -- tables of rows, and tables that are one row
+pub mod Tables  -- marks, lists and rows of lists as tables
 pub mod Loops  -- the loops over a row, a turn at a time
 pub mod Searches  -- find in a row
 pub mod Removals  -- remove from a row keeping order; clear a row

@@ -88,12 +88,12 @@ in-has p (q ∷ l) e = by (same? p q) (in-has p l)
     by (inl k) below = inl k
     by (inr n) below = inr (below (rw (eqb-diff p q n) at e))
 
-some-no : (f : ℕ → Bool) (l : List ℕ) → any f l ≡ false → (x : ℕ) → In x l → f x ≡ false
+pub some-no : (f : ℕ → Bool) (l : List ℕ) → any f l ≡ false → (x : ℕ) → In x l → f x ≡ false
 some-no f [] e x i = absurd i
 some-no f (y ∷ l) e x (inl k) = ap f k ∙ or-no (f y) (any f l) e .0
 some-no f (y ∷ l) e x (inr i) = some-no f l (or-no (f y) (any f l) e .1) x i
 
-up-in : (n i b : ℕ) → i ≤ b → b < i + n → In b (upFrom i n)
+pub up-in : (n i b : ℕ) → i ≤ b → b < i + n → In b (upFrom i n)
 up-in zero i b lo hi = absurd (omega arith)
 up-in (suc n) i b lo hi = by (same? b i) (up-in n (suc i) b)
   where
