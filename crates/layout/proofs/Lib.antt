@@ -7,5 +7,6 @@ pub mod Removals
 pub mod Swaps
 pub mod Values
 pub mod Stacks
+pub mod Lasts
 pub mod Same
 pub mod Outcome
