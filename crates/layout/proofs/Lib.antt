@@ -5,7 +5,9 @@ pub mod Loops
 pub mod Searches
 pub mod Removals
 pub mod Swaps
+pub mod Pushes
 pub mod Values
+pub mod Columns
 pub mod Stacks
 pub mod Lasts
 pub mod Same
