@@ -11,3 +11,6 @@ pub mod Stacks  -- push, read and pop the work stacks
 pub mod Same  -- the cells fix the tables
 pub mod Outcome  -- what a session keeps
 pub mod Zeros  -- zero cells show the empty state
+pub mod Pushes  -- push on a row of a table
+pub mod Columns  -- store in a column with a cell for each value
+pub mod Lasts  -- the last results on their stack
