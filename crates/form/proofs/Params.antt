@@ -11,7 +11,7 @@ use Rattle.definition.specs.Base.{put, put₂, _∷ʳ_, without}
 use Rattle.definition.specs.Form.{Form, param, with-args}
 use Rattle.definition.specs.Read.{make, set-params}
 use Rattle.meaning.proofs.Maps.{put-same, put-other}
-use Rattle.meaning.proofs.Lists.{put₂-at, put₂-other}
+use Rattle.meaning.proofs.Maps.{put₂-at, put₂-other}
 use Rattle.layout.specs.declared.Counts.{Counts}
 use Rattle.layout.specs.Cells.{base}
 use Rattle.layout.specs.Counts.{more}

@@ -15,7 +15,7 @@ use Rattle.definition.specs.Form.{Form, def}
 use Rattle.definition.specs.Read.{write, mark-one, wait, set-pending}
 use Rattle.definition.specs.Tables.{plus-one}
 use Rattle.meaning.proofs.Maps.{same?, put-same, put-other}
-use Rattle.meaning.proofs.Lists.{put₂-at, put₂-other}
+use Rattle.meaning.proofs.Maps.{put₂-at, put₂-other}
 use Rattle.layout.specs.Cells.{base, Holds, grid}
 use Rattle.layout.specs.Layout.{firsts, form-sizes, form-tables, param-row}
 use Rattle.layout.specs.Rows.{Row, Readable, Pushable, pushed, wipe}

@@ -18,9 +18,9 @@ use Rattle.definition.specs.Read.{only, single}
 use Rattle.definition.specs.Session.{bit}
 use Rattle.definition.specs.Tables.{plus-one}
 use Rattle.meaning.specs.Path.{In}
-use Rattle.meaning.proofs.Keeping.{false-true}
-use Rattle.meaning.proofs.Mid.{pigeon}
-use Rattle.meaning.proofs.Whole.{has-in}
+use Rattle.meaning.proofs.Maps.{false-true}
+use Rattle.meaning.proofs.Sums.{pigeon}
+use Rattle.meaning.proofs.Lists.{has-in}
 use Rattle.layout.specs.Cells.{base}
 use Rattle.layout.specs.Layout.{type-row, dest-row, pred-row, graph-sizes, graph-tables}
 use Rattle.layout.specs.Rows.{Row, Readable}
@@ -95,10 +95,10 @@ module _ {cells : List ℕ} {g : Graph} (s : Seen cells g) where
     pub dests-row : Row cells a dest-row (g .dests p)
     dests-row =
         subst (λ (k : ℕ). Row cells k dest-row (g .dests p)) (sym e)
-        (row-among graph-sizes cells (graph-tables g) 4 (s .cells) dest-row (g .dests) p refl (omega arith) (omega (arith, s .bounds .eight p)))
+        (row-among graph-sizes cells (graph-tables g) 4 (s .cells) dest-row (g .dests) p refl (omega arith) (omega (arith, s .bounds .dests p)))
 
     pub dests-readable : Readable cells a
-    dests-readable = row-readable cells a dest-row (g .dests p) dests-row (omega (arith, s .bounds .eight p))
+    dests-readable = row-readable cells a dest-row (g .dests p) dests-row (omega (arith, s .bounds .dests p))
 
   module _ {a : ℕ} (b : ℕ) (lb : b < limits .blocks) (e : a ≡ preds-start b) where
     pub preds-row : Row cells a pred-row (g .preds b)

@@ -13,7 +13,8 @@ use Rattle.definition.specs.Base.{has, any, upFrom}
 use Rattle.definition.specs.Form.{Graph}
 use Rattle.definition.specs.Session.{declared-anywhere}
 use Rattle.meaning.specs.Path.{In}
-use Rattle.meaning.proofs.Whole.{some-no, up-in, in-has}
+use Rattle.meaning.proofs.Whole.{some-no, up-in}
+use Rattle.meaning.proofs.Lists.{in-has}
 use Rattle.graph.specs.Seen.{Seen}
 
 none-among : (f : ℕ → Bool) (l : List ℕ) → ((x : ℕ) → In x l → f x ≡ false) → any f l ≡ false

@@ -13,7 +13,8 @@ use lib.Seq.{ext-getD}
 use Rattle.entity.specs.Limits.{limits, value-room, row-cells}
 use Rattle.definition.specs.Form.{Graph, Form, Info, Sort, made, param, nought, def}
 use Rattle.definition.specs.Session.{Call, session, bit}
-use Rattle.meaning.proofs.Rooms.{Rooms, rooms}
+use Rattle.meaning.specs.Rooms.{Rooms}
+use Rattle.meaning.proofs.Rooms.{rooms}
 use Rattle.layout.specs.Cells.{Table, blank, cell, rows, upto}
 use Rattle.definition.specs.Tables.{sort-number, plus-one}
 use Rattle.layout.specs.Layout.{firsts, seconds, dest-row, pred-row, zero-row, param-row, graph-sizes, graph-tables, form-sizes, form-tables, render-graph, render-form}

@@ -15,7 +15,7 @@ use Rattle.definition.specs.Session.{last, but-last, swap-out}
 use Rattle.meaning.specs.Path.{In}
 use Rattle.meaning.proofs.Maps.{same?, put-other, put-at, put-same, eqb-same, eqb-diff}
 use Rattle.meaning.proofs.Lists.{Nodup}
-use Rattle.meaning.proofs.Keeping.{false-true}
+use Rattle.meaning.proofs.Maps.{false-true}
 use Rattle.layout.specs.Cells.{cell}
 use Rattle.layout.specs.Rows.{Row, swapped}
 use Rattle.layout.proofs.Cells.{below?, Changed}

@@ -1,15 +1,17 @@
 -- Alias chains: following targets ends, and linking a root to another root moves exactly the values that ended there.
 -- Assumes nothing.
-use Prim.Native.Nat.{ℕ, zero, suc, _+_, _<_, _≤_}
+use Prim.Native.Nat.{ℕ, zero, suc, _<_, _≤_}
 use mathlib.Core.Path.{_≡_, refl, sym, ap, _∙_, subst}
 use mathlib.Core.Logic.{_≢_, _⊎_, inl, inr}
-use mathlib.Core.Bool.{Bool, true, false, cond}
+use mathlib.Core.Bool.{true, not}
 use lib.Dec.{eqb}
 use native.Mathlib.Omega.{arith}
-use native.Mathlib.Nat.{le-of-suc-le-suc, not-suc-le-zero, le-refl, le-trans}
+use native.Mathlib.Nat.{le-of-suc-le-suc, not-suc-le-zero, le-trans}
 use Rattle.definition.specs.Base.{put}
 use Rattle.definition.specs.Read.{follow}
-use Rattle.meaning.proofs.Maps.{same?, put-same, put-other, put-at, eqb-same, eqb-diff, eqb-eq}
+use Rattle.definition.specs.Session.{bit}
+use Rattle.meaning.proofs.Maps.{same?, put-other, put-at, eqb-same, eqb-diff, put-same}
+use Rattle.meaning.proofs.Sums.{sum-most, sum, sum-suc, bit-most, sum-change}
 
 -- k links from z to y, which is its own target
 pub data Chain (t : ℕ → ℕ) : ℕ → ℕ → ℕ → Type 0 where
@@ -18,56 +20,24 @@ pub data Chain (t : ℕ → ℕ) : ℕ → ℕ → ℕ → Type 0 where
 
 -- how many of the first n are aliases
 abbrev pub cnt : (ℕ → ℕ) → ℕ → ℕ
-cnt t zero = zero
-cnt t (suc n) = cond (eqb (t n) n) (cnt t n) (suc (cnt t n))
+cnt t n = sum (λ i. bit (not (eqb (t i) i))) n
 
 cnt-step : (t : ℕ → ℕ) (n : ℕ) → cnt t n ≤ cnt t (suc n)
-cnt-step t n = by (eqb (t n) n)
-  where
-    by : (b : Bool) → cnt t n ≤ cond b (cnt t n) (suc (cnt t n))
-    by true = omega arith
-    by false = omega arith
+cnt-step t n = omega (arith, sum-suc (λ i. bit (not (eqb (t i) i))) n)
 
 cnt-le : (t : ℕ → ℕ) (n : ℕ) → cnt t n ≤ n
-cnt-le t zero = omega arith
-cnt-le t (suc n) = by (eqb (t n) n) (cnt-le t n)
-  where
-    by : (b : Bool) → cnt t n ≤ n → cond b (cnt t n) (suc (cnt t n)) ≤ suc n
-    by true h = omega arith
-    by false h = omega arith
-
-cnt-put-above : (t : ℕ → ℕ) (x y n : ℕ) → n ≤ x → cnt (put x y t) n ≡ cnt t n
-cnt-put-above t x y zero h = refl
-cnt-put-above t x y (suc n) h =
-    let ne : n ≢ x = omega arith in
-    let lo : n ≤ x = omega arith in
-    rw (eqb-diff n x ne) (rw (cnt-put-above t x y n lo) refl)
-
-cnt-more : (t : ℕ → ℕ) (n : ℕ) → t n ≢ n → cnt t (suc n) ≡ suc (cnt t n)
-cnt-more t n ne = rw (eqb-diff (t n) n ne)
+cnt-le t n = omega (arith, sum-most 1 (λ i. bit (not (eqb (t i) i))) n (λ i _. bit-most (not (eqb (t i) i))))
 
 eqb-true : (a b : ℕ) → a ≡ b → eqb a b ≡ true
 eqb-true a b e = ap (λ (k : ℕ). eqb k b) e ∙ eqb-same b
 
-cnt-stay : (t : ℕ → ℕ) (n : ℕ) → t n ≡ n → cnt t (suc n) ≡ cnt t n
-cnt-stay t n e = rw (eqb-true (t n) n e)
-
 cnt-put : (t : ℕ → ℕ) (x y n : ℕ) → x < n → t x ≡ x → y ≢ x → cnt (put x y t) n ≡ suc (cnt t n)
-cnt-put t x y zero h r d = absurd (not-suc-le-zero h)
-cnt-put t x y (suc n) h r d = by (same? n x) (cnt-put t x y n)
-  where
-    by : (n ≡ x) ⊎ (n ≢ x) → (x < n → t x ≡ x → y ≢ x → cnt (put x y t) n ≡ suc (cnt t n)) → cnt (put x y t) (suc n) ≡ suc (cnt t (suc n))
-    by (inl e) below =
-        let lo : n ≤ x = omega arith in
-        cnt-more (put x y t) n (λ q. d (sym (put-at x y t n e) ∙ q ∙ e))
-        ∙ ap suc (cnt-put-above t x y n lo ∙ sym (cnt-stay t n (ap t e ∙ r ∙ sym e)))
-    by (inr ne) below =
-        let lt : x < n = omega arith in
-        rw (eqb-diff n x ne) (rw (below lt r d) (pull (eqb (t n) n)))
-      where
-        pull : (b : Bool) → cond b (suc (cnt t n)) (suc (suc (cnt t n))) ≡ suc (cond b (cnt t n) (suc (cnt t n)))
-        pull true = refl
-        pull false = refl
+cnt-put t x y n l r d =
+    let was : bit (not (eqb (t x) x)) ≡ 0 = rw (eqb-true (t x) x r) in
+    let is : bit (not (eqb (put x y t x) x)) ≡ 1 = rw (put-same x y t, eqb-diff y x d) in
+    let new = sum-change (λ i. bit (not (eqb (put x y t i) i))) (λ i. bit (not (eqb (t i) i))) x n
+    (λ i k. ap (λ (j : ℕ). bit (not (eqb j i))) (put-other x y t i k)) l in
+    omega (arith, new, was, is)
 
 pub follow-root : (t : ℕ → ℕ) (n z : ℕ) → t z ≡ z → follow n t z ≡ z
 follow-root t zero z e = refl
@@ -119,9 +89,9 @@ ends t n h z = follow-chain t (h z .chain) n (le-trans (h z .short) (cnt-le t n)
 pub root-is : (t : ℕ → ℕ) (n z : ℕ) → Tree t n → t (follow n t z) ≡ follow n t z
 root-is t n z h = ap t (ends t n h z) ∙ chain-root (h z .chain) ∙ sym (ends t n h z)
 
-pub follow-suc : (t : ℕ → ℕ) (n z : ℕ) → Tree t n → follow (suc n) t z ≡ follow n t z
-unfolding tree-suc
-follow-suc t n z h = ends t (suc n) (tree-suc t n h) z ∙ sym (ends t n h z)
+-- more links change nothing
+pub follow-more : (t : ℕ → ℕ) (n m z : ℕ) → Tree t n → n ≤ m → follow m t z ≡ follow n t z
+follow-more t n m z h l = follow-chain t (h z .chain) m (le-trans (h z .short) (le-trans (cnt-le t n) l)) ∙ sym (ends t n h z)
 
 module _ (t : ℕ → ℕ) (n x y : ℕ) (h : Tree t n) (lt : x < n) (rx : t x ≡ x) (ry : t y ≡ y) (d : y ≢ x) where
   linked : (z : ℕ) → (h z .root ≡ x) ⊎ (h z .root ≢ x) → Ended (put x y t) n z

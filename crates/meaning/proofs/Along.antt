@@ -1,26 +1,24 @@
 -- Demand 3 along a path, from the facts. Assumes nothing.
-use Prim.Native.Nat.{ℕ, zero, suc, _+_, _<_}
+use Prim.Native.Nat.{ℕ, _<_}
 use mathlib.Core.Path.{_≡_, refl, sym, ap, _∙_, subst}
 use mathlib.Core.Logic.{_≢_, _⊎_, inl, inr}
 use mathlib.Core.Bool.{Bool, true, false, cond}
-use mathlib.Core.Option.{Option, none, some}
+use mathlib.Core.Option.{Option, some}
 use mathlib.Core.List.{List, [], _∷_, _++_}
 use lib.Dec.{eqb}
-use native.Mathlib.Omega.{arith}
-use native.Mathlib.Nat.{le-of-suc-le-suc, not-suc-le-zero}
 use lib.ListN.{length, getD}
-use Rattle.definition.specs.Base.{put, orElse}
-use Rattle.definition.specs.Form.{Graph, Form, Info, Sort, made, param, nought, def}
+use native.Mathlib.Omega.{arith}
+use Rattle.definition.specs.Base.{put}
+use Rattle.definition.specs.Form.{Sort, made, param, nought, def}
 use Rattle.definition.specs.Read.{resolve, type-of}
 use Rattle.definition.specs.Session.{State}
-use Rattle.meaning.specs.Path.{In, Act, makes, gives, uses, acts, Mem, do-act, do-acts, bring, zeroed, zeros-set, enter, At, start, go, Supposed, Faithful}
-use Rattle.meaning.proofs.Maps.{some-inj, put-at, same?, put-same, put-other, eqb-same, eqb-diff, eqb-eq}
+use Rattle.meaning.specs.Path.{In, Act, makes, gives, uses, acts, Mem, do-act, do-acts, bring, zeroed, zeros-set, enter, At, start, go, Supposed}
+use Rattle.meaning.specs.Path.{Faithful}
+use Rattle.meaning.proofs.Maps.{some-inj, put-at, same?, put-other, eqb-same, eqb-diff, some-none}
 use Rattle.meaning.proofs.Facts.{arg-of, cur, Edge, same, kept, Told, Facts}
+use Rattle.meaning.proofs.Lists.{getD-in}
 
 module _ (W : Type 0) (null : ℕ → W) (t : State) where
-  R : ℕ → ℕ
-  R x = resolve (t .form) x
-
   -- in block b, with the blocks vis visited: f's values hold what their variables received, are set, and are not made later in b
   abbrev Set-by : ℕ → List ℕ → List ℕ → ℕ → Type 0
   Set-by b vis ms y = In (t .form .info y .home) vis × (t .form .info y .home ≡ b → t .form .info y .sort ≡ made → In y ms)
@@ -127,8 +125,8 @@ module _ (W : Type 0) (null : ℕ → W) (t : State) where
 
   -- entering a block
   bring-arg : (xs us : List ℕ) (old : ℕ → W) (y a : ℕ) → arg-of xs us y ≡ some a → bring W null t xs us old y ≡ old (resolve (t .form) a)
-  bring-arg [] us old y a e = absurd (mathlib.Core.Option.Option·none-ne-some a e)
-  bring-arg (x ∷ xs) [] old y a e = absurd (mathlib.Core.Option.Option·none-ne-some a e)
+  bring-arg [] us old y a e = absurd (some-none e refl)
+  bring-arg (x ∷ xs) [] old y a e = absurd (some-none e refl)
   bring-arg (x ∷ xs) (u ∷ us) old y a e = by (eqb y x) (bring-arg xs us old y a) e
     where
       by : (c : Bool) → (arg-of xs us y ≡ some a → bring W null t xs us old y ≡ old (resolve (t .form) a)) → cond c (some u) (arg-of xs us y) ≡ some a
@@ -160,11 +158,6 @@ module _ (W : Type 0) (null : ℕ → W) (t : State) where
 
   param-made : {k : Sort} → k ≡ param → k ≡ made → ⊥
   param-made p q = let z : _≡_ {A = ℕ} 0 1 = cc in omega arith
-
-  getD-in : (l : List ℕ) (i : ℕ) → i < length l → In (getD l i 0) l
-  getD-in [] i h = absurd (not-suc-le-zero h)
-  getD-in (x ∷ l) zero h = inl refl
-  getD-in (x ∷ l) (suc i) h = inr (getD-in l i (le-of-suc-le-suc h))
 
   abbrev Same : ℕ → ℕ → ℕ → Type 0
   Same v b e = (p : ℕ) → In p (t .graph .preds b) → (o : ℕ) × (def (t .form) v p ≡ some o) × (resolve (t .form) o ≡ resolve (t .form) e)

@@ -11,16 +11,14 @@ use lib.ListN.{length}
 use native.Mathlib.Omega.{arith}
 use Rattle.definition.specs.Form.{Graph, Form, Sort, made, param, nought}
 use Rattle.definition.specs.Session.{Call, session}
-use Rattle.meaning.specs.Causes.{Caused, is-sort, Causes-param, Causes-zero, values-of, Once}
+use Rattle.meaning.specs.Causes.{is-sort, Causes-param, Causes-zero, values-of, Once}
 use Rattle.meaning.specs.Machine.{Conf}
 use Rattle.meaning.specs.Path.{In}
-use Rattle.meaning.proofs.Maps.{eqb-eq, some-inj}
-use Rattle.meaning.proofs.Lists.{Nodup}
-use Rattle.meaning.proofs.Keeping.{false-true}
-use Rattle.meaning.proofs.Reading.{Sound}
-use Rattle.meaning.proofs.Ranges.{Bounds}
-use Rattle.meaning.proofs.Mid.{pigeon}
-use Rattle.meaning.proofs.Sure.{and-both, sure}
+use Rattle.meaning.specs.Stored.{Nodup}
+use Rattle.meaning.proofs.Causing.{Caused}
+use Rattle.meaning.proofs.Maps.{eqb-eq, some-inj, false-true, and-both}
+use Rattle.meaning.proofs.Sums.{pigeon}
+use Rattle.meaning.proofs.Sure.{sure}
 use Rattle.meaning.proofs.Rooms.{Moment}
 
 is-sort-eq : (j k : Sort) → is-sort j k ≡ true → j ≡ k
@@ -92,5 +90,5 @@ caused cs = sure cs .safe .ranged .caused
 pub once : (cs : List Call) → Once (session cs .graph) (session cs .form)
 once cs = once-of (session cs .form) (session cs .graph) (caused cs)
 
-pub once-now : (g : Graph) (G : Sound g) (B : Bounds g) (v : ℕ) (lv : v < length (g .types)) (rest : ℕ → List (ℕ × ℕ)) (k : ℕ) (c : Conf) → Moment g G B v lv rest k c → Once g (c .form)
-once-now g G B v lv rest k c m = once-of (c .form) g (m .now .0 .ranged .caused)
+pub once-now : (g : Graph) (v : ℕ) (rest : ℕ → List (ℕ × ℕ)) (k : ℕ) (c : Conf) → Moment g v rest k c → Once g (c .form)
+once-now g v rest k c m = once-of (c .form) g (m .now .0 .ranged .caused)

@@ -1,64 +1,61 @@
--- Each change of a form keeps that parameters and zeros are caused: entries are never replaced, and an alias keeps its target. Assumes nothing.
-use Prim.Native.Nat.{ℕ, suc, _<_}
+-- Every parameter and every zero ever made has a cause, also once it became an alias, and each change of a form keeps that: entries are never replaced, and an
+-- alias keeps its target. Assumes nothing.
+use Prim.Native.Nat.{ℕ, suc, _<_, _≤_}
 use mathlib.Core.Path.{_≡_, sym, ap, _∙_}
-use mathlib.Core.Logic.{_≢_, _⊎_, inl, inr}
+use mathlib.Core.Logic.{_≢_, inl, inr}
 use mathlib.Core.Option.{Option, some}
 use lib.ListN.{length}
 use native.Mathlib.Omega.{arith}
+use native.Mathlib.Nat.{le-trans}
 use Rattle.definition.specs.Base.{put}
-use Rattle.definition.specs.Form.{Graph, Form, Info, param, nought}
-use Rattle.definition.specs.Read.{alias}
-use Rattle.meaning.specs.Causes.{Caused}
-use Rattle.meaning.proofs.Maps.{same?, put-other, put-at}
+use Rattle.definition.specs.Form.{Graph, Info, Form, param, nought}
 use Rattle.meaning.proofs.Inv.{nought-param}
+use Rattle.meaning.proofs.Maps.{put-other, same?, put-at}
 
-module _ (g : Graph) (s : Form) (h : Caused g s) where
-  -- a parameter whose target is a zero is an alias
-  linked : (x z : ℕ) → s .info x .sort ≡ param → s .info z .sort ≡ nought → s .target x ≡ z → s .target x ≢ x
-  linked x z p q t r = nought-param q (ap (λ (k : ℕ). s .info k .sort) (sym t ∙ r) ∙ p)
+-- of n variables
+pub record Causing (n next : ℕ) (info : ℕ → Info) (entry : ℕ → ℕ → Option ℕ) (target : ℕ → ℕ) : Type 0 where
+  -- a parameter is what the entry of a variable records in its block
+  pub param-of : (x : ℕ) → x < next → info x .sort ≡ param → (v : ℕ) × (v < n) × (entry v (info x .home) ≡ some x)
+  -- a zero is what a parameter of its block is an alias of
+  pub zero-of : (z : ℕ) → z < next → info z .sort ≡ nought → (x : ℕ) × (x < next) × (info x .sort ≡ param) × (info x .home ≡ info z .home) × (target x ≡ z)
 
-  -- a new value, with a cause of its own; entries and aliases stay
-  module _ (s′ : Form) (new : Info) (next : s′ .next ≡ suc (s .next)) (info : s′ .info ≡ put (s .next) new (s .info))
-      (entry : (v b e : ℕ) → s .entry v b ≡ some e → s′ .entry v b ≡ some e) (target : (x : ℕ) → s .target x ≢ x → s′ .target x ≡ s .target x)
-      (if-param : new .sort ≡ param → (v : ℕ) × (v < length (g .types)) × (s′ .entry v (new .home) ≡ some (s .next)))
-      (if-zero : new .sort ≡ nought → (x : ℕ) × (x < s .next) × (s .info x .sort ≡ param) × (s .info x .home ≡ new .home) × (s′ .target x ≡ s .next)) where
-    new-info : (x : ℕ) → x ≡ s .next → s′ .info x ≡ new
-    new-info x e = ap (λ (f : ℕ → Info). f x) info ∙ put-at (s .next) new (s .info) x e
+abbrev pub Caused : Graph → Form → Type 0
+Caused g s = Causing (length (g .types)) (s .next) (s .info) (s .entry) (s .target)
 
-    old-info : (x : ℕ) → x ≢ s .next → s′ .info x ≡ s .info x
-    old-info x n = ap (λ (f : ℕ → Info). f x) info ∙ put-other (s .next) new (s .info) x n
+module _ {n next : ℕ} {info : ℕ → Info} {entry : ℕ → ℕ → Option ℕ} {target : ℕ → ℕ} (h : Causing n next info entry target) where
+  -- more variables
+  pub wider-caused : (m : ℕ) → n ≤ m → Causing m next info entry target
+  wider-caused m l = record { param-of = λ x k q. let c = h .param-of x k q in (c .0, le-trans (c .1) l, c .2); zero-of = h .zero-of }
 
-    pub new-caused : Caused g s′
-    new-caused = record { param-of = λ x l q. params x l q (same? x (s .next)); zero-of = λ z l q. zeros z l q (same? z (s .next)) }
-      where
-        params : (x : ℕ) → x < s′ .next → s′ .info x .sort ≡ param → (x ≡ s .next) ⊎ (x ≢ s .next) → (v : ℕ) × (v < length (g .types)) × (s′ .entry v (s′ .info x .home) ≡ some x)
-        params x l q (inl e) =
-            let i = new-info x e in
-            let k = if-param (sym (ap (λ (j : Info). j .sort) i) ∙ q) in
-            (k .0, k .1, ap (λ (j : Info). s′ .entry (k .0) (j .home)) i ∙ k .2 ∙ ap {B = Option ℕ} some (sym e))
-        params x l q (inr n) =
-            let i = old-info x n in
-            let k = h .param-of x (omega (arith, l, next, n)) (sym (ap (λ (j : Info). j .sort) i) ∙ q) in
-            (k .0, k .1, ap (λ (j : Info). s′ .entry (k .0) (j .home)) i ∙ entry (k .0) (s .info x .home) x (k .2))
+  -- more entries
+  pub entered-caused : (entry′ : ℕ → ℕ → Option ℕ) → ((v b e : ℕ) → entry v b ≡ some e → entry′ v b ≡ some e) → Causing n next info entry′ target
+  entered-caused entry′ up = record { param-of = λ x l q. let k = h .param-of x l q in (k .0, k .1, up (k .0) (info x .home) x (k .2)); zero-of = h .zero-of }
 
-        zeros : (z : ℕ) → z < s′ .next → s′ .info z .sort ≡ nought → (z ≡ s .next) ⊎ (z ≢ s .next)
-            → (x : ℕ) × (x < s′ .next) × (s′ .info x .sort ≡ param) × (s′ .info x .home ≡ s′ .info z .home) × (s′ .target x ≡ z)
-        zeros z l q (inl e) =
-            let i = new-info z e in
-            let k = if-zero (sym (ap (λ (j : Info). j .sort) i) ∙ q) in
-            let o = old-info (k .0) (omega (arith, k .1)) in
-            (k .0, omega (arith, k .1, next), ap (λ (j : Info). j .sort) o ∙ k .2, ap (λ (j : Info). j .home) o ∙ k .3 ∙ sym (ap (λ (j : Info). j .home) i), k .4 ∙ sym e)
-        zeros z l q (inr n) =
-            let i = old-info z n in
-            let p : s .info z .sort ≡ nought = sym (ap (λ (j : Info). j .sort) i) ∙ q in
-            let k = h .zero-of z (omega (arith, l, next, n)) p in
-            let o = old-info (k .0) (omega (arith, k .1)) in
-            (k .0, omega (arith, k .1, next), ap (λ (j : Info). j .sort) o ∙ k .2, ap (λ (j : Info). j .home) o ∙ k .3 ∙ sym (ap (λ (j : Info). j .home) i), target (k .0) (linked (k .0) z (k .2) p (k .4)) ∙ k .4)
+  -- more aliases: a parameter whose target is a zero was one
+  pub aliased-caused : (x y : ℕ) → target x ≡ x → Causing n next info entry (put x y target)
+  aliased-caused x y root = record {
+    param-of = h .param-of;
+    zero-of = λ z l q.
+        let k = h .zero-of z l q in
+        let was : k .0 ≢ x = λ e. nought-param q (ap (λ (j : ℕ). info j .sort) (sym (k .4) ∙ ap target e ∙ root ∙ sym e) ∙ k .2) in
+        (k .0, k .1, k .2, k .3, put-other x y target (k .0) was ∙ k .4);
+  }
 
-  -- the root x becomes another name of y
-  module _ (x y : ℕ) (root : s .target x ≡ x) where
-    pub alias-keeps : (z : ℕ) → s .target z ≢ z → put x y (s .target) z ≡ s .target z
-    alias-keeps z n = put-other x y (s .target) z (λ e. n (ap (s .target) e ∙ root ∙ sym e))
-
-    pub alias-caused : (b : ℕ) → Caused g (alias b x y s)
-    alias-caused b = record { param-of = h .param-of; zero-of = λ z l q. let k = h .zero-of z l q in (k .0, k .1, k .2, k .3, alias-keeps (k .0) (linked (k .0) z (k .2) q (k .4)) ∙ k .4) }
+  -- one more value, with a cause of its own
+  pub new-caused : (new : Info) → (new .sort ≡ param → (v : ℕ) × (v < n) × (entry v (new .home) ≡ some next))
+      → (new .sort ≡ nought → (x : ℕ) × (x < next) × (info x .sort ≡ param) × (info x .home ≡ new .home) × (target x ≡ next))
+      → Causing n (suc next) (put next new info) entry target
+  new-caused new if-param if-zero = record {
+    param-of = λ x l q. elim (same? x next) [
+      | inl e ↦ let i = put-at next new info x e in rw (i, e) (if-param (rw i at q))
+      | inr d ↦ let i = put-other next new info x d in rw i (h .param-of x (omega arith) (rw i at q))
+    ];
+    zero-of = λ z l q. elim (same? z next) [
+      | inl e ↦ let i = put-at next new info z e in rw (i, e) (old (new .home) next (if-zero (rw i at q)))
+      | inr d ↦ let i = put-other next new info z d in rw i (old (info z .home) z (h .zero-of z (omega arith) (rw i at q)))
+    ];
+  }
+    where
+      old : (b z : ℕ) → (x : ℕ) × (x < next) × (info x .sort ≡ param) × (info x .home ≡ b) × (target x ≡ z)
+          → (x : ℕ) × (x < suc next) × (put next new info x .sort ≡ param) × (put next new info x .home ≡ b) × (target x ≡ z)
+      old b z k = let i = put-other next new info (k .0) (omega (arith, k .1)) in (k .0, omega (arith, k .1), rw i (k .2), rw i (k .3), k .4)

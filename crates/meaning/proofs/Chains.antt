@@ -15,8 +15,6 @@ use Rattle.definition.specs.Resolve.{Ends, here, on, Resolved, past, ends, lost
 use Rattle.definition.specs.Session.{Call, session}
 use Rattle.meaning.specs.Machine.{Conf}
 use Rattle.meaning.proofs.Alias.{Tree, root-is}
-use Rattle.meaning.proofs.Reading.{Sound}
-use Rattle.meaning.proofs.Ranges.{Bounds}
 use Rattle.meaning.proofs.Sure.{sure}
 use Rattle.meaning.proofs.Rooms.{Moment}
 
@@ -80,8 +78,8 @@ module _ (s : Form) (tree : Tree (s .target) (s .next)) (closed : (x : ℕ) → 
   chain-ends x l = follow-ends (s .next) x l (root-is (s .target) (s .next) x tree)
 
 pub chains-end : (cs : List Call) (x : ℕ) → x < session cs .form .next → Ends (targets (session cs .form)) x (resolve (session cs .form) x)
-chains-end cs x l = let h = sure cs in chain-ends (session cs .form) (h .whole .inv .tree) (h .safe .ranged .closed) x l
+chains-end cs x l = let h = sure cs in chain-ends (session cs .form) (h .whole .inv .aliased .tree) (h .safe .ranged .valued .closed) x l
 
-pub chains-end-now : (g : Graph) (G : Sound g) (B : Bounds g) (v : ℕ) (lv : v < length (g .types)) (rest : ℕ → List (ℕ × ℕ)) (k : ℕ) (c : Conf) → Moment g G B v lv rest k c
+pub chains-end-now : (g : Graph) (v : ℕ) (rest : ℕ → List (ℕ × ℕ)) (k : ℕ) (c : Conf) → Moment g v rest k c
     → (x : ℕ) → x < c .form .next → Ends (targets (c .form)) x (resolve (c .form) x)
-chains-end-now g G B v lv rest k c m = let h = m .now .0 in chain-ends (c .form) (h .inv .tree) (h .ranged .closed)
+chains-end-now g v rest k c m = let h = m .now .0 in chain-ends (c .form) (h .inv .aliased .tree) (h .ranged .valued .closed)

@@ -11,8 +11,8 @@ use Rattle.definition.specs.Base.{has, every}
 use Rattle.meaning.specs.Path.{In}
 use Rattle.meaning.specs.Suppositions.{below}
 use Rattle.meaning.proofs.Maps.{same?}
-use Rattle.meaning.proofs.Keeping.{false-true}
-use Rattle.meaning.proofs.Whole.{has-in, in-has}
+use Rattle.meaning.proofs.Maps.{false-true}
+use Rattle.meaning.proofs.Lists.{has-in, in-has}
 
 pub record Decides (b : Bool) (A : Type 0) : Type 0 where
   pub sound : b ≡ true → A

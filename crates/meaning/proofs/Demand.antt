@@ -1,36 +1,27 @@
 -- Demand 3, of every session. Assumes nothing.
-use Prim.Native.Nat.{ℕ, zero, suc, _+_, _<_, _≤_}
-use mathlib.Core.Path.{_≡_, refl, sym, ap, _∙_, subst}
-use mathlib.Core.Logic.{_≢_, _⊎_, inl, inr}
-use mathlib.Core.Bool.{Bool, true, false, cond}
-use mathlib.Core.Option.{Option, none, some}
+use Prim.Native.Nat.{ℕ, suc}
+use mathlib.Core.Path.{_≡_, refl, sym, ap, _∙_}
+use mathlib.Core.Logic.{_≢_, inl, inr}
+use mathlib.Core.Bool.{true, false}
+use mathlib.Core.Option.{Option, none}
 use mathlib.Core.List.{List, [], _∷_, _++_, append-assoc, append-nil}
-use lib.Dec.{eqb}
 use lib.ListN.{length, getD}
 use native.Mathlib.Omega.{arith}
-use native.Mathlib.Nat.{le-of-suc-le-suc, not-suc-le-zero}
-use Rattle.definition.specs.Base.{put, put₂, orElse}
-use Rattle.definition.specs.Form.{Graph, Form, Info, Sort, made, param, nought, def}
-use Rattle.definition.specs.Read.{resolve, type-of}
+use native.Mathlib.Nat.{not-suc-le-zero}
+use Rattle.definition.specs.Base.{orElse}
+use Rattle.definition.specs.Form.{Graph, Form, Sort, made, param}
 use Rattle.definition.specs.Session.{Call, Done, State, Reply, no, ok, reply, tick, after, step, empty, run, session}
-use Rattle.meaning.specs.Path.{In, Act, makes, gives, uses, act, acts, declares, defines, Supposed, Faithful, Fed, Demand-3}
-use Rattle.meaning.proofs.Maps.{same?, eqb-diff}
-use Rattle.meaning.proofs.Facts.{arg-of, cur, Edge, same, kept, Told, Facts}
+use Rattle.meaning.specs.Path.{In, acts, declares, defines, Supposed, Fed, Demand-3}
+use Rattle.meaning.proofs.Maps.{eqb-diff, false-true, some-none}
+use Rattle.meaning.proofs.Facts.{Edge, same, kept, Facts}
 use Rattle.meaning.proofs.Alias.{tree-start, follow-root}
-use Rattle.meaning.proofs.Lists.{in-left, in-right, PIn, snds}
-use Rattle.meaning.proofs.Inv.{Inv, Grow, grow-refl, pending, Nought}
-use Rattle.meaning.proofs.Keeping.{false-true}
-use Rattle.meaning.proofs.Reading.{Sound}
+use Rattle.meaning.proofs.Lists.{in-right, getD-in, nil-of}
+use Rattle.meaning.proofs.Inv.{grow-refl}
 use Rattle.meaning.proofs.Sealing.{idle}
-use Rattle.meaning.proofs.Story.{Tells, cur-or, told-all}
+use Rattle.meaning.proofs.Story.{cur-or, told-all}
 use Rattle.meaning.proofs.Graphs.{wider-inv}
 use Rattle.meaning.proofs.Whole.{Whole, silent, Fine, Timely, fine}
 use Rattle.meaning.proofs.Along.{faithful}
-
-getD-in : (l : List ℕ) (i : ℕ) → i < length l → In (getD l i 0) l
-getD-in [] i h = absurd (not-suc-le-zero h)
-getD-in (x ∷ l) zero h = inl refl
-getD-in (x ∷ l) (suc i) h = inr (getD-in l i (le-of-suc-le-suc h))
 
 abbrev pub Good : Type 0 → State → Type 0
 Good E t = Whole E (t .graph) (t .form) (t .done)
@@ -92,71 +83,47 @@ pub empty-good : (E : Type 0) → Good E empty
 empty-good E = record {
   kp = λ b. [];
   inv = record {
-    known = λ w b e q. absurd (Option-none e q);
-    edge = λ _ w b e q. absurd (Option-none e q);
-    first = λ _ w b e q _. absurd (Option-none e q);
+    known = λ w b e q. absurd (some-none q refl);
+    edge = λ _ w b e q. absurd (some-none q refl);
+    first = λ _ w b e q _. absurd (some-none q refl);
     pend = λ w b x i. absurd i;
-    split = λ b. refl;
-    pars = λ b x i. absurd i;
-    nodup = λ b. tt;
-    bare = λ b e. refl;
-    fed = λ p i l. absurd (no-lt i l);
-    unfed = λ p i n. refl;
-    tree = tree-start 0;
-    fresh = λ x l. refl;
-    roots = λ x n. refl;
+    listed = record { split = λ b. refl; pars = λ b x i. absurd i; nodup = λ b. tt; bare = λ b e. refl };
+    passed = record { fed = λ p i l. absurd (not-suc-le-zero l); unfed = λ p i n. refl };
+    aliased = record { tree = tree-start 0; fresh = λ x l. refl; roots = λ x n. refl };
   };
   sound = record { range = λ b p i. absurd i; nodup = λ b. tt; inside = λ b p i. absurd i; names = λ b p i. absurd i };
   hist = λ b p i. absurd i;
   own = λ b v. refl;
   tells = λ b. tt;
 }
-  where
-    Option-none : (e : ℕ) → _≡_ {A = Option ℕ} none (some e) → ⊥
-    Option-none e q = mathlib.Core.Option.Option·none-ne-some e q
 
-    no-lt : (i : ℕ) → i < 0 → ⊥
-    no-lt i l = omega arith
+made-param : {k : Sort} → k ≡ made → k ≡ param → ⊥
+made-param p q = let z : _≡_ {A = ℕ} 0 1 = cc in omega arith
+
+-- nothing is pending in a sealed block, so all its parameters are kept
+pub all-kept : (E : Type 0) (t : State) (h : Good E t) (b : ℕ) → t .graph .sealed b ≡ true → h .kp b ≡ t .form .params b
+all-kept E t h b e = sym (h .inv .listed .split b ∙ rw e (append-nil (h .kp b)))
 
 -- the facts, where all is as supposed
 module _ (t : State) (h : Good (Unit {0}) t) (S : Supposed t) where
-  settled : (b : ℕ) → t .graph .sealed b ≡ true → pending (t .graph) (t .form) idle b ≡ []
-  settled b e = rw e refl
-
-  all-kept : (b : ℕ) → t .graph .sealed b ≡ true → h .kp b ≡ t .form .params b
-  all-kept b e = sym (h .inv .split b ∙ ap (λ (l : List (ℕ × ℕ)). h .kp b ++ snds l) (settled b e) ∙ append-nil (h .kp b))
-
-  edges : (b v e : ℕ) → t .graph .sealed b ≡ true → PIn v e (pending (t .graph) (t .form) idle b) ⊎ Edge (t .graph) (t .form) (h .kp) v b e → Edge (t .graph) (t .form) (t .form .params) v b e
-  edges b v e z (inl i) = absurd (subst (λ (l : List (ℕ × ℕ)). PIn v e l) (settled b z) i)
-  edges b v e z (inr (same y f)) = same y f
-  edges b v e z (inr (kept y r x f)) =
-      let k = all-kept b z in
-      kept y r (subst (λ (l : List ℕ). In e l) k x)
-      (λ p ip. let o = f p ip in (o .0, o .1, λ i lt q. let a = o .2 i lt q in (a .0, subst (λ (l : List ℕ). arg-of l (t .form .args p i) e ≡ some (a .0)) k (a .1), a .2)))
-
-  starts : (v e : ℕ) → t .form .entry v 0 ≡ some e → PIn v e (pending (t .graph) (t .form) idle 0) ⊎ Nought (t .graph) (t .form) v 0 e → Nought (t .graph) (t .form) v 0 e
-  starts v e q (inl i) = absurd (subst (λ (l : List (ℕ × ℕ)). PIn v e l) (settled 0 (S .all-sealed 0 (h .inv .known v 0 e q .1))) i)
-  starts v e q (inr n) = n
-
-  none-before : t .graph .preds 0 ≡ []
-  none-before = by (t .graph .preds 0) (λ p i. S .none-enters-0 p (h .sound .names 0 p i))
-    where
-      by : (l : List ℕ) → ((p : ℕ) → In p l → ⊥) → l ≡ []
-      by [] n = refl
-      by (p ∷ l) n = absurd (n p (inl refl))
-
-  made-param : {k : Sort} → k ≡ made → k ≡ param → ⊥
-  made-param p q = let z : _≡_ {A = ℕ} 0 1 = cc in omega arith
+  edges : (b v e : ℕ) → Edge (t .graph) (t .form) (h .kp) v b e → Edge (t .graph) (t .form) (t .form .params) v b e
+  edges b v e (same y f) = same y f
+  edges b v e (kept y r x f) =
+      let k = all-kept (Unit {0}) t h b y in
+      kept y r (rw k at x) (λ p ip. let o = f p ip in (o .0, o .1, λ i lt q. let a = o .2 i lt q in (a .0, rw k at (a .1), a .2)))
 
   facts : Facts t
   facts = record {
-    told = λ b. told-all (t .graph) (t .form) (λ x e. follow-root (t .form .target) (t .form .next) x (h .inv .roots x (λ q. made-param e q))) b (acts b (t .done))
+    told = λ b. told-all (t .graph) (t .form) (λ x e. follow-root (t .form .target) (t .form .next) x (h .inv .aliased .roots x (λ q. made-param e q))) b (acts b (t .done))
         (λ v x q r e. S .own-values b v x q r e) (λ v. t .form .entry v b) [] [] [] (acts b (t .done)) refl (λ x i. absurd i) (λ w x i. absurd i) (h .tells b);
     last = λ b v. ap (λ (o : Option ℕ). orElse o (t .form .entry v b)) (h .own b v) ∙ sym (cur-or (λ w. t .form .entry w b) (acts b (t .done)) (λ w. none) v);
     inside = h .sound .inside;
-    edge = λ b v e z q. edges b v e z (h .inv .edge tt v b e q);
-    first = λ v e q. let n = starts v e q (h .inv .first tt v 0 e q none-before) in (n .sort, n .home, n .type);
-    params = λ b x i. let r = h .inv .pars b x i in (r .home, r .sort);
+    edge = λ b v e z q. elim (h .inv .edge tt v b e q) [ inl i ↦ absurd (rw z at i) | inr k ↦ edges b v e k ];
+    first = λ v e q. elim (h .inv .first tt v 0 e q (nil-of (t .graph .preds 0) (λ p i. S .none-enters-0 p (h .sound .names 0 p i)))) [
+      | inl i ↦ absurd (rw (S .all-sealed 0 (h .inv .known v 0 e q .1)) at i)
+      | inr n ↦ (n .sort, n .home, n .type)
+    ];
+    params = λ b x i. let r = h .inv .listed .pars b x i in (r .home, r .sort);
   }
 
   fed : Fed t
@@ -164,13 +131,9 @@ module _ (t : State) (h : Good (Unit {0}) t) (S : Supposed t) where
       let b = getD (t .graph .dests p) i 0 in
       let ip = S .all-declared p b (getD-in (t .graph .dests p) i lt) in
       let z = S .all-sealed b (h .sound .inside b p ip) in
-      h .inv .fed p i lt z ip ∙ ap length (all-kept b z)
+      h .inv .passed .fed p i lt z ip ∙ ap length (all-kept (Unit {0}) t h b z)
 
 pub demand-3 : Demand-3
 demand-3 cs S =
     let h = run-good (Unit {0}) cs empty (empty-good (Unit {0})) (λ _. S .none-late) in
     (λ W null. faithful (session cs) (facts (session cs) h S) S W null, fed (session cs) h S)
-
--- of every session, with no supposition: all but what edges say
-pub always : (cs : List Call) → Good ⊥ (session cs)
-always cs = run-good ⊥ cs empty (empty-good ⊥) (λ z. absurd z)

@@ -1,15 +1,15 @@
 -- The facts of a finished session from which demand 3 follows along a path.
 -- Assumes nothing.
-use Prim.Native.Nat.{ℕ, zero, suc, _+_, _<_}
-use mathlib.Core.Path.{_≡_, refl}
-use mathlib.Core.Logic.{_≢_, _⊎_, inl, inr}
-use mathlib.Core.Bool.{Bool, true, false, cond}
+use Prim.Native.Nat.{ℕ, _<_}
+use mathlib.Core.Path.{_≡_}
+use mathlib.Core.Logic.{_⊎_}
+use mathlib.Core.Bool.{true, cond, Bool}
 use mathlib.Core.Option.{Option, none, some}
-use mathlib.Core.List.{List, [], _∷_, _++_}
+use mathlib.Core.List.{List, [], _∷_}
 use lib.Dec.{eqb}
 use lib.ListN.{length, getD}
-use Rattle.definition.specs.Base.{put, orElse}
-use Rattle.definition.specs.Form.{Graph, Form, Info, Sort, made, param, nought, def}
+use Rattle.definition.specs.Base.{put}
+use Rattle.definition.specs.Form.{Graph, Form, made, param, nought, def}
 use Rattle.definition.specs.Read.{resolve, type-of}
 use Rattle.definition.specs.Session.{State}
 use Rattle.meaning.specs.Path.{In, Act, makes, gives, uses, acts}
@@ -27,14 +27,18 @@ cur f (makes x ∷ us) = cur f us
 cur f (gives v x ∷ us) = cur (put v (some x) f) us
 cur f (uses v x ∷ us) = cur f us
 
-module _ (g : Graph) (s : Form) (K : ℕ → List ℕ) where
-  -- the value e, which stands for v where b begins, is each predecessor's value at its end, or a parameter that each predecessor feeds with it
-  pub data Edge (v b e : ℕ) : Type 0 where
-    same : g .sealed b ≡ true → ((p : ℕ) → In p (g .preds b) → (o : ℕ) × (def s v p ≡ some o) × (resolve s o ≡ resolve s e)) → Edge v b e
-    kept : g .sealed b ≡ true → resolve s e ≡ e → In e (K b)
-        → ((p : ℕ) → In p (g .preds b) → (o : ℕ) × (def s v p ≡ some o)
-        × ((i : ℕ) → i < length (g .dests p) → getD (g .dests p) i 0 ≡ b → (a : ℕ) × (arg-of (K b) (s .args p i) e ≡ some a) × (resolve s a ≡ resolve s o)))
-        → Edge v b e
+-- The value e, which stands for v where b begins, is each predecessor's value at its end, or a parameter that each predecessor feeds with it. Of the
+-- graph and the form this takes what it reads: `held` is what each block records of a variable, `res` where aliases lead.
+module _ (sealed : ℕ → Bool) (preds dests : ℕ → List ℕ) (held : ℕ → ℕ → Option ℕ) (res : ℕ → ℕ) (args : ℕ → ℕ → List ℕ) (K : ℕ → List ℕ) where
+  pub data Comes (v b e : ℕ) : Type 0 where
+    same : sealed b ≡ true → ((p : ℕ) → In p (preds b) → (o : ℕ) × (held v p ≡ some o) × (res o ≡ res e)) → Comes v b e
+    kept : sealed b ≡ true → res e ≡ e → In e (K b)
+        → ((p : ℕ) → In p (preds b) → (o : ℕ) × (held v p ≡ some o)
+        × ((i : ℕ) → i < length (dests p) → getD (dests p) i 0 ≡ b → (a : ℕ) × (arg-of (K b) (args p i) e ≡ some a) × (res a ≡ res o)))
+        → Comes v b e
+
+abbrev pub Edge : Graph → Form → (ℕ → List ℕ) → ℕ → ℕ → ℕ → Type 0
+Edge g s K v b e = Comes (g .sealed) (g .preds) (g .dests) (def s) (resolve s) (s .args) K v b e
 
 module _ (g : Graph) (s : Form) where
   -- acts that the form explains: f what stands for each variable, ms the values made before, us the answers given before

@@ -1,261 +1,133 @@
--- A new parameter, and a parameter that is kept. Assumes nothing.
-use Prim.Native.Nat.{ℕ, zero, suc, _+_, _<_, _≤_}
-use mathlib.Core.Path.{_≡_, refl, sym, ap, _∙_, subst}
-use mathlib.Core.Logic.{_≢_, _⊎_, inl, inr}
-use mathlib.Core.Bool.{Bool, true, false, cond, _&&_}
-use mathlib.Core.Option.{Option, none, some, Option·none-ne-some}
+-- A new parameter keeps the invariant: it is an entry that was not there, and waits or is at work until it is settled. Assumes nothing.
+use Prim.Native.Nat.{ℕ, _<_, suc}
+use mathlib.Core.Path.{_≡_, refl, sym, ap, _∙_}
+use mathlib.Core.Logic.{⊎-map, _≢_, _⊎_, inl, inr}
+use mathlib.Core.Bool.{cond}
+use mathlib.Core.Option.{Option, none, some}
 use mathlib.Core.List.{List, [], _∷_, _++_, append-assoc}
-use lib.Dec.{eqb}
-use lib.ListN.{length, getD, length-append}
+use lib.ListN.{length}
 use native.Mathlib.Omega.{arith}
-use native.Mathlib.Nat.{le-trans, le-of-suc-le-suc, not-suc-le-zero}
-use Rattle.definition.specs.Base.{put, put₂, without, orElse}
-use Rattle.definition.specs.Form.{Graph, Form, Info, Sort, made, param, nought, def}
-use Rattle.definition.specs.Read.{resolve, follow, type-of, mark-one, make, alias, set-params, is-dest, feed, feed-all}
+use Rattle.definition.specs.Read.{new-param, resolve, type-of}
+use Rattle.definition.specs.Form.{with-pending, Graph, Form, Info, param}
 use Rattle.meaning.specs.Path.{In}
-use Rattle.meaning.proofs.Maps.{same?, put-same, put-other, put-at, eqb-same, eqb-diff, eqb-eq, some-inj}
-use Rattle.meaning.proofs.Facts.{arg-of, Edge, same, kept}
-use Rattle.meaning.proofs.Alias.{Tree, tree-suc, follow-suc, follow-root}
-use Rattle.meaning.proofs.Lists.{in-left, in-right, in-cases, Nodup, nodup-snoc, nodup-apart, nodup-right, PIn, snds, snds-append, pin-snds, pin-left, pin-last, pin-cases, arg-more, arg-last, put₂-at, put₂-other, here?}
-use Rattle.meaning.proofs.Inv.{Grow, grow-refl, def-grow, pending, Nought, Param, Inv, edge-grow, nought-grow, nought-same, pending-par, kept-par, in-one}
+use Rattle.meaning.proofs.Maps.{same?, put-same, put-other, put-at, some-inj, put₂-at, put₂-other, here?, some-none}
+use Rattle.meaning.proofs.Alias.{tree-suc, follow-more}
+use Rattle.meaning.proofs.Lists.{in-cases, nodup-snoc, snds, snds-append, in-one, in-right, in-left}
+use Rattle.meaning.proofs.Inv.{Grow, pending, Param, Inv, edge-grow, nought-grow, pending-par, kept-root, param-grow}
 
-module _ (g : Graph) (E : Type 0) where
-  -- 4. a new parameter x for v on c
-  module _ (s : Form) (kp : ℕ → List ℕ) (op op′ : ℕ → List (ℕ × ℕ)) (h : Inv g E s kp op) (v c : ℕ) (ws : ℕ → List (ℕ × ℕ)) (blank : s .entry v c ≡ none) (lv : v < length (g .types)) (lc : c < g .blocks)
-      (elsewhere : (b : ℕ) → b ≢ c → cond (g .sealed b) (op′ b) (ws b) ≡ pending g s op b)
-      (there : cond (g .sealed c) (op′ c) (ws c) ≡ pending g s op c ++ (v, s .next) ∷ []) where
-    abbrev x : ℕ
-    x = s .next
+-- the form with a new parameter for v on c, where ws waits
+abbrev pub grown : Graph → Form → ℕ → ℕ → (ℕ → List (ℕ × ℕ)) → Form
+grown g s v c ws = with-pending (new-param g v c s) ws
 
-    abbrev new : Info
-    new = record { sort = param; type = type-of g v; home = c }
+-- 4. a new parameter x for v on c
+module _ (g : Graph) (E : Type 0) (s : Form) (kp : ℕ → List ℕ) (op op′ : ℕ → List (ℕ × ℕ)) (h : Inv g E s kp op) (v c : ℕ) (ws : ℕ → List (ℕ × ℕ))
+    (blank : s .entry v c ≡ none) (lv : v < length (g .types)) (lc : c < g .blocks)
+    (elsewhere : (b : ℕ) → b ≢ c → cond (g .sealed b) (op′ b) (ws b) ≡ pending g s op b)
+    (there : cond (g .sealed c) (op′ c) (ws c) ≡ pending g s op c ++ (v, s .next) ∷ []) where
+  abbrev x : ℕ
+  x = s .next
 
-    abbrev pub grown : Form
-    grown = record {
-      next = suc (s .next);
-      makes = s .makes;
-      info = put (s .next) new (s .info);
-      target = s .target;
-      params = put c (s .params c ++ s .next ∷ []) (s .params);
-      args = s .args;
-      pending = ws;
-      entry = put₂ v c (some (s .next)) (s .entry);
-      own = s .own;
-      zeros = s .zeros;
-      placed = s .placed;
-    }
+  abbrev new : Info
+  new = record { sort = param; type = type-of g v; home = c }
 
-    grown-info : (y : ℕ) → y < s .next → grown .info y ≡ s .info y
-    grown-info y l = put-other (s .next) new (s .info) y (omega arith)
+  abbrev now : Form
+  now = grown g s v c ws
 
-    grown-res : (z : ℕ) → resolve grown z ≡ resolve s z
-    grown-res z = follow-suc (s .target) (s .next) z (h .tree)
+  now-res : (z : ℕ) → resolve now z ≡ resolve s z
+  now-res z = follow-more (s .target) (s .next) (suc (s .next)) z (h .aliased .tree) (omega arith)
 
-    pub grown-grow : Grow s grown
-    grown-grow = record { own = λ w b. refl; entry = λ w b e q. by w b e q (here? w v b c); res = λ y z q. grown-res y ∙ q ∙ sym (grown-res z); info = grown-info; more = omega arith }
-      where
-        by : (w b e : ℕ) → s .entry w b ≡ some e → ((w ≡ v) × (b ≡ c)) ⊎ (w ≡ v → b ≡ c → ⊥) → put₂ v c (some x) (s .entry) w b ≡ some e
-        by w b e q (inl k) = absurd (Option·none-ne-some e (sym blank ∙ sym (ap (λ (i : ℕ). s .entry i b) (k .0) ∙ ap (λ (i : ℕ). s .entry v i) (k .1)) ∙ q))
-        by w b e q (inr n) = put₂-other v c (some x) (s .entry) w b n ∙ q
+  pub grown-grow : Grow s (grown g s v c ws)
+  grown-grow = record {
+    own = λ w b. refl;
+    entry = λ w b e q. elim (here? w v b c) [
+      | inl k ↦ absurd (some-none (rw (k .0, k .1) at q) blank)
+      | inr n ↦ put₂-other v c (some x) (s .entry) w b n ∙ q
+    ];
+    res = λ y z q. now-res y ∙ q ∙ sym (now-res z);
+    info = λ y l. put-other (s .next) new (s .info) y (omega arith);
+    more = omega arith;
+  }
 
-    old-par : (b y : ℕ) → Param g s b y → Param g grown b y
-    old-par b y r =
-        let i = grown-info y (r .below) in
-        record { home = ap (λ (j : Info). j .home) i ∙ r .home; sort = ap (λ (j : Info). j .sort) i ∙ r .sort; root = r .root; below = omega (arith, r .below) }
+  -- an entry is the new one or an old one
+  entry-is : (w b e : ℕ) → now .entry w b ≡ some e → ((w ≡ v) × (b ≡ c) × (e ≡ x)) ⊎ (s .entry w b ≡ some e)
+  entry-is w b e q = elim (here? w v b c) [
+    | inl k ↦ inl (k .0, k .1, some-inj (sym q ∙ put₂-at v c (some x) (s .entry) w b (k .0) (k .1)))
+    | inr n ↦ inr (sym (put₂-other v c (some x) (s .entry) w b n) ∙ q)
+  ]
 
-    new-par : Param g grown c x
-    new-par =
-        let i = put-same (s .next) new (s .info) in
-        record { home = ap (λ (j : Info). j .home) i; sort = ap (λ (j : Info). j .sort) i; root = h .fresh x (omega arith); below = omega arith }
+  old-par : (b y : ℕ) → Param s b y → Param now b y
+  old-par b y r = param-grow s now b y grown-grow (r .root) r
 
-    not-old : (b : ℕ) → In x (s .params b) → ⊥
-    not-old b i = omega (arith, h .pars b x i .below)
+  new-par : Param now c x
+  new-par =
+      let i = put-same (s .next) new (s .info) in
+      record { home = ap (λ (j : Info). j .home) i; sort = ap (λ (j : Info). j .sort) i; root = h .aliased .fresh x (omega arith); below = omega arith }
 
-    at-c : (b : ℕ) → b ≡ c → pending g grown op′ b ≡ pending g s op b ++ (v, x) ∷ []
-    at-c b q = ap (pending g grown op′) q ∙ there ∙ ap (λ (k : ℕ). pending g s op k ++ (v, x) ∷ []) (sym q)
+  at-c : (b : ℕ) → b ≡ c → pending g now op′ b ≡ pending g s op b ++ (v, x) ∷ []
+  at-c b q = ap (pending g now op′) q ∙ there ∙ ap (λ (k : ℕ). pending g s op k ++ (v, x) ∷ []) (sym q)
 
-    -- what was pending is
-    still : (w b e : ℕ) → (b ≡ c) ⊎ (b ≢ c) → PIn w e (pending g s op b) → PIn w e (pending g grown op′ b)
-    still w b e (inl q) i = subst (λ (l : List (ℕ × ℕ)). PIn w e l) (sym (at-c b q)) (pin-left w e (pending g s op b) ((v, x) ∷ []) i)
-    still w b e (inr n) i = subst (λ (l : List (ℕ × ℕ)). PIn w e l) (sym (elsewhere b n)) i
+  -- what was pending is, and the new one too
+  still : (w b e : ℕ) → In (w, e) (pending g s op b) → In (w, e) (pending g now op′ b)
+  still w b e i = elim (same? b c) [ inl q ↦ rw (at-c b q) (in-left (w, e) (pending g s op b) ((v, x) ∷ []) i) | inr n ↦ rw (elsewhere b n) i ]
 
-    old-pend : (w b y : ℕ) → PIn w y (pending g s op b) → (put₂ v c (some x) (s .entry) w b ≡ some y) × (grown .info y .type ≡ type-of g w)
-    old-pend w b y j = (
-      grown-grow .entry w b y (h .pend w b y j .0),
-      ap (λ (k : Info). k .type) (grown-info y (h .pars b y (pending-par g E s kp op h w b y j) .below)) ∙ h .pend w b y j .1,
-    )
+  also : (w b e : ℕ) → (w ≡ v) × (b ≡ c) × (e ≡ x) → In (w, e) (pending g now op′ b)
+  also w b e k = rw (k .0, k .2, at-c b (k .1)) (in-right (v, x) (pending g s op b) ((v, x) ∷ []) (inl refl))
 
-    pub grown-inv : Inv g E grown kp op′
-    grown-inv = record {
-      known = λ w b e q. known w b e q (here? w v b c);
-      edge = λ ok w b e q. edge ok w b e q (here? w v b c);
-      first = λ ok w b e q empty. first ok w b e q empty (here? w v b c);
-      pend = λ w b y i. pend w b y (same? b c) i;
-      split = λ b. split b (same? b c);
-      pars = λ b y i. pars b y (same? b c) i;
-      nodup = λ b. nodup b (same? b c);
-      bare = h .bare;
-      fed = h .fed;
-      unfed = h .unfed;
-      tree = tree-suc (s .target) (s .next) (h .tree);
-      fresh = λ y l. h .fresh y (omega arith);
-      roots = λ y n. roots y n (same? y (s .next));
-    }
-      where
-        known : (w b e : ℕ) → put₂ v c (some x) (s .entry) w b ≡ some e → ((w ≡ v) × (b ≡ c)) ⊎ (w ≡ v → b ≡ c → ⊥) → (w < length (g .types)) × (b < g .blocks)
-        known w b e q (inl k) = (subst (λ (j : ℕ). j < length (g .types)) (sym (k .0)) lv, subst (λ (j : ℕ). j < g .blocks) (sym (k .1)) lc)
-        known w b e q (inr n) = h .known w b e (sym (put₂-other v c (some x) (s .entry) w b n) ∙ q)
+  old-pend : (w b y : ℕ) → In (w, y) (pending g s op b) → (now .entry w b ≡ some y) × (now .info y .type ≡ type-of g w)
+  old-pend w b y j =
+      let k = h .pend w b y j in (
+        grown-grow .entry w b y (k .0),
+        ap (λ (k : Info). k .type) (grown-grow .info y (h .listed .pars b y (pending-par g E s kp op h w b y j) .below)) ∙ k .1,
+      )
 
-        edge : E → (w b e : ℕ) → put₂ v c (some x) (s .entry) w b ≡ some e → ((w ≡ v) × (b ≡ c)) ⊎ (w ≡ v → b ≡ c → ⊥) → PIn w e (pending g grown op′ b) ⊎ Edge g grown kp w b e
-        edge ok w b e q (inl k) =
-            let is : e ≡ x = some-inj (sym q ∙ put₂-at v c (some x) (s .entry) w b (k .0) (k .1)) in
-            inl (rw (at-c b (k .1)) (rw (k .0, is) (pin-last v x (pending g s op b))))
-        edge ok w b e q (inr n) = old (h .edge ok w b e (sym (put₂-other v c (some x) (s .entry) w b n) ∙ q))
-          where
-            old : PIn w e (pending g s op b) ⊎ Edge g s kp w b e → PIn w e (pending g grown op′ b) ⊎ Edge g grown kp w b e
-            old (inl i) = inl (still w b e (same? b c) i)
-            old (inr d) = inr (edge-grow g s grown kp kp grown-grow w b e (λ i. (h .pars b e (kept-par g E s kp op h b e i) .root, i, λ _ _ _ _ _ _ a. a)) d)
-
-        first : E → (w b e : ℕ) → put₂ v c (some x) (s .entry) w b ≡ some e → g .preds b ≡ [] → ((w ≡ v) × (b ≡ c)) ⊎ (w ≡ v → b ≡ c → ⊥) → PIn w e (pending g grown op′ b) ⊎ Nought g grown w b e
-        first ok w b e q empty (inl k) =
-            let is : e ≡ x = some-inj (sym q ∙ put₂-at v c (some x) (s .entry) w b (k .0) (k .1)) in
-            inl (rw (at-c b (k .1)) (rw (k .0, is) (pin-last v x (pending g s op b))))
-        first ok w b e q empty (inr n) = old (h .first ok w b e (sym (put₂-other v c (some x) (s .entry) w b n) ∙ q) empty)
-          where
-            old : PIn w e (pending g s op b) ⊎ Nought g s w b e → PIn w e (pending g grown op′ b) ⊎ Nought g grown w b e
-            old (inl i) = inl (still w b e (same? b c) i)
-            old (inr d) = inr (nought-grow g s grown w b e (grown-res e) (grown-info (resolve s e) (d .below)) (omega arith) d)
-
-        pend : (w b y : ℕ) → (b ≡ c) ⊎ (b ≢ c) → PIn w y (pending g grown op′ b) → (put₂ v c (some x) (s .entry) w b ≡ some y) × (grown .info y .type ≡ type-of g w)
-        pend w b y (inl q) i = on (pin-cases w y v x (pending g s op b) (subst (λ (l : List (ℕ × ℕ)). PIn w y l) (at-c b q) i))
-          where
-            on : PIn w y (pending g s op b) ⊎ ((w ≡ v) × (y ≡ x)) → (put₂ v c (some x) (s .entry) w b ≡ some y) × (grown .info y .type ≡ type-of g w)
-            on (inl j) = old-pend w b y j
-            on (inr k) = (
-              put₂-at v c (some x) (s .entry) w b (k .0) q ∙ ap {B = Option ℕ} some (sym (k .1)),
-              ap (λ (j : Info). j .type) (put-at (s .next) new (s .info) y (k .1)) ∙ ap (type-of g) (sym (k .0)),
-            )
-        pend w b y (inr n) i = old-pend w b y (subst (λ (l : List (ℕ × ℕ)). PIn w y l) (elsewhere b n) i)
-
-        split : (b : ℕ) → (b ≡ c) ⊎ (b ≢ c) → grown .params b ≡ kp b ++ snds (pending g grown op′ b)
-        split b (inl q) =
-            put-at c (s .params c ++ x ∷ []) (s .params) b q ∙ ap (λ (k : ℕ). s .params k ++ x ∷ []) (sym q) ∙ ap (λ (l : List ℕ). l ++ x ∷ []) (h .split b)
+  pub grown-inv : Inv g E (grown g s v c ws) kp op′
+  grown-inv = record {
+    known = λ w b e q. elim (entry-is w b e q) [ inl k ↦ (rw (k .0) lv, rw (k .1) lc) | inr o ↦ h .known w b e o ];
+    edge = λ ok w b e q. elim (entry-is w b e q) [
+      | inl k ↦ inl (also w b e k)
+      | inr o ↦ ⊎-map (still w b e) (edge-grow g s now kp kp grown-grow w b e (λ i. (kept-root g E s kp op h b e i, i, λ _ _ _ _ _ _ a. a))) (h .edge ok w b e o)
+    ];
+    first = λ ok w b e q empty. elim (entry-is w b e q) [
+      | inl k ↦ inl (also w b e k)
+      | inr o ↦ ⊎-map (still w b e) (nought-grow s now (type-of g w) b e grown-grow (now-res e)) (h .first ok w b e o empty)
+    ];
+    pend = λ w b y i. elim (same? b c) [
+      | inl q ↦ elim (in-cases (w, y) (pending g s op b) ((v, x) ∷ []) (rw (at-c b q) at i)) [
+        | inl j ↦ old-pend w b y j
+        | inr j ↦ let k = in-one (w, y) (v, x) j in
+            let kw : w ≡ v = ap (λ (p : ℕ × ℕ). p .0) k in
+            let ky : y ≡ x = ap (λ (p : ℕ × ℕ). p .1) k in
+            (put₂-at v c (some x) (s .entry) w b kw q ∙ ap {B = Option ℕ} some (sym ky), ap (λ (j : Info). j .type) (put-at (s .next) new (s .info) y ky) ∙ ap (type-of g) (sym kw))
+      ]
+      | inr n ↦ old-pend w b y (rw (elsewhere b n) at i)
+    ];
+    listed = record {
+      split = λ b. elim (same? b c) [
+        | inl q ↦ put-at c (s .params c ++ x ∷ []) (s .params) b q ∙ ap (λ (k : ℕ). s .params k ++ x ∷ []) (sym q) ∙ ap (λ (l : List ℕ). l ++ x ∷ []) (h .listed .split b)
             ∙ append-assoc (kp b) (snds (pending g s op b)) (x ∷ []) ∙ ap (λ (l : List ℕ). kp b ++ l) (sym (snds-append (pending g s op b) ((v, x) ∷ [])))
             ∙ ap (λ (l : List (ℕ × ℕ)). kp b ++ snds l) (sym (at-c b q))
-        split b (inr n) = put-other c (s .params c ++ x ∷ []) (s .params) b n ∙ h .split b ∙ ap (λ (l : List (ℕ × ℕ)). kp b ++ snds l) (sym (elsewhere b n))
-
-        pars : (b y : ℕ) → (b ≡ c) ⊎ (b ≢ c) → In y (grown .params b) → Param g grown b y
-        pars b y (inl q) i = on (in-cases y (s .params c) (x ∷ []) (subst (λ (l : List ℕ). In y l) (put-at c (s .params c ++ x ∷ []) (s .params) b q) i))
-          where
-            on : In y (s .params c) ⊎ In y (x ∷ []) → Param g grown b y
-            on (inl j) = old-par b y (h .pars b y (subst (λ (k : ℕ). In y (s .params k)) (sym q) j))
-            on (inr j) = rw (q, in-one y x j) new-par
-        pars b y (inr n) i = old-par b y (h .pars b y (subst (λ (l : List ℕ). In y l) (put-other c (s .params c ++ x ∷ []) (s .params) b n) i))
-
-        nodup : (b : ℕ) → (b ≡ c) ⊎ (b ≢ c) → Nodup (grown .params b)
-        nodup b (inl q) = subst (λ (l : List ℕ). Nodup l) (sym (put-at c (s .params c ++ x ∷ []) (s .params) b q)) (nodup-snoc (s .params c) x (h .nodup c) (not-old c))
-        nodup b (inr n) = subst (λ (l : List ℕ). Nodup l) (sym (put-other c (s .params c ++ x ∷ []) (s .params) b n)) (h .nodup b)
-
-        roots : (y : ℕ) → (grown .info y .sort ≡ param → ⊥) → (y ≡ s .next) ⊎ (y ≢ s .next) → s .target y ≡ y
-        roots y n (inl e) = h .fresh y (omega arith)
-        roots y n (inr d) = h .roots y (λ q. n (ap (λ (j : Info). j .sort) (put-other (s .next) new (s .info) y d) ∙ q))
-
-module _ (g : Graph) where
-  -- 5. feeding
-  pub dest-yes : (ds : List ℕ) (i b : ℕ) → i < length ds → getD ds i 0 ≡ b → is-dest ds i b ≡ true
-  dest-yes [] i b l e = absurd (not-suc-le-zero l)
-  dest-yes (d ∷ ds) zero b l e = ap (λ (k : ℕ). eqb k b) e ∙ eqb-same b
-  dest-yes (d ∷ ds) (suc i) b l e = dest-yes ds i b (le-of-suc-le-suc l) e
-
-  pub dest-is : (ds : List ℕ) (i b : ℕ) → is-dest ds i b ≡ true → (i < length ds) × (getD ds i 0 ≡ b)
-  dest-is [] i b e = absurd (false-true e)
-    where
-      false-true : _≡_ {A = Bool} false true → ⊥
-      false-true q = let z : _≡_ {A = ℕ} 0 1 = cc in omega arith
-  dest-is (d ∷ ds) zero b e = (omega arith, eqb-eq d b e)
-  dest-is (d ∷ ds) (suc i) b e = let r = dest-is ds i b e in (omega (arith, r .0), r .1)
-
-  feed-here : (p b x i : ℕ) (ds : List ℕ) (a : ℕ → ℕ → List ℕ) → is-dest ds i b ≡ true → feed p b x ds a p i ≡ a p i ++ x ∷ []
-  feed-here p b x i ds a e = rw (eqb-same p) (rw e refl)
-
-  feed-not : (p b x q i : ℕ) (ds : List ℕ) (a : ℕ → ℕ → List ℕ) → is-dest ds i b ≡ false → feed p b x ds a q i ≡ a q i
-  feed-not p b x q i ds a e = by (eqb q p)
-    where
-      by : (c : Bool) → cond (c && is-dest ds i b) (a q i ++ x ∷ []) (a q i) ≡ a q i
-      by true = rw e refl
-      by false = refl
-
-  feed-else : (p b x q i : ℕ) (ds : List ℕ) (a : ℕ → ℕ → List ℕ) → q ≢ p → feed p b x ds a q i ≡ a q i
-  feed-else p b x q i ds a n = rw (eqb-diff q p n) refl
-
-  -- each predecessor's result stands for what it records of v
-  abbrev pub Results : ℕ → Form → List ℕ → List ℕ → Type 0
-  Results v s [] [] = Unit {0}
-  Results v s [] (r ∷ rs) = ⊥
-  Results v s (p ∷ ps) [] = ⊥
-  Results v s (p ∷ ps) (r ∷ rs) = ((o : ℕ) × (def s v p ≡ some o) × (resolve s r ≡ resolve s o)) × Results v s ps rs
-
-  pub all-not : (b : ℕ) (ps rs : List ℕ) (a : ℕ → ℕ → List ℕ) (q i : ℕ) → is-dest (g .dests q) i b ≡ false → feed-all g b ps rs a q i ≡ a q i
-  all-not b [] rs a q i e = refl
-  all-not b (p ∷ ps) [] a q i e = refl
-  all-not b (p ∷ ps) (r ∷ rs) a q i e = all-not b ps rs (feed p b r (g .dests p) a) q i e ∙ by (same? q p)
-    where
-      by : (q ≡ p) ⊎ (q ≢ p) → feed p b r (g .dests p) a q i ≡ a q i
-      by (inl k) = feed-not p b r q i (g .dests p) a (sym (ap (λ (j : ℕ). is-dest (g .dests j) i b) k) ∙ e)
-      by (inr n) = feed-else p b r q i (g .dests p) a n
-
-  pub all-else : (b : ℕ) (ps rs : List ℕ) (a : ℕ → ℕ → List ℕ) (q i : ℕ) → (In q ps → ⊥) → feed-all g b ps rs a q i ≡ a q i
-  all-else b [] rs a q i n = refl
-  all-else b (p ∷ ps) [] a q i n = refl
-  all-else b (p ∷ ps) (r ∷ rs) a q i n = all-else b ps rs (feed p b r (g .dests p) a) q i (λ j. n (inr j)) ∙ feed-else p b r q i (g .dests p) a (λ e. n (inl e))
-
-  -- where there is a result for each predecessor, each destination gets one argument
-  pub one-more : (b : ℕ) (ps rs : List ℕ) (a : ℕ → ℕ → List ℕ) (q i : ℕ) → length rs ≡ length ps → Nodup ps → In q ps → is-dest (g .dests q) i b ≡ true
-      → (r : ℕ) × (feed-all g b ps rs a q i ≡ a q i ++ r ∷ []) × In r rs
-  one-more b [] rs a q i len n j e = absurd j
-  one-more b (p ∷ ps) [] a q i len n j e = absurd (omega (arith, len))
-  one-more b (p ∷ ps) (r ∷ rs) a q i len n (inl k) e = (
-    r,
-    all-else b ps rs (feed p b r (g .dests p) a) q i (λ j. n .0 (subst (λ (h : ℕ). In h ps) k j))
-        ∙ ap (λ (h : ℕ). feed p b r (g .dests p) a h i) k ∙ feed-here p b r i (g .dests p) a (sym (ap (λ (h : ℕ). is-dest (g .dests h) i b) k) ∙ e) ∙ ap (λ (h : ℕ). a h i ++ r ∷ []) (sym k),
-    inl refl,
-  )
-  one-more b (p ∷ ps) (r ∷ rs) a q i len n (inr j) e =
-      let k = one-more b ps rs (feed p b r (g .dests p) a) q i (omega (arith, len)) (n .1) j e in
-      (k .0, k .1 ∙ ap (λ (l : List ℕ). l ++ k .0 ∷ []) (feed-else p b r q i (g .dests p) a (λ h. n .0 (subst (λ (u : ℕ). In u ps) h j))), inr (k .2))
-
-  pub results-length : (v : ℕ) (s : Form) (ps rs : List ℕ) → Results v s ps rs → length rs ≡ length ps
-  results-length v s [] [] h = refl
-  results-length v s [] (r ∷ rs) h = absurd h
-  results-length v s (p ∷ ps) [] h = absurd h
-  results-length v s (p ∷ ps) (r ∷ rs) h = ap suc (results-length v s ps rs (h .1))
-
-  -- what q's destination at i got
-  pub record Got-one (v : ℕ) (s : Form) (b q i : ℕ) (a a′ : List ℕ) : Type 0 where
-    pub r : ℕ
-    pub o : ℕ
-    pub recorded : def s v q ≡ some o
-    pub alike : resolve s r ≡ resolve s o
-    pub grew : a′ ≡ a ++ r ∷ []
-
-  pub all-here : (v b : ℕ) (s : Form) (ps rs : List ℕ) (a : ℕ → ℕ → List ℕ) (q i : ℕ) → Results v s ps rs → Nodup ps → In q ps → is-dest (g .dests q) i b ≡ true
-      → Got-one v s b q i (a q i) (feed-all g b ps rs a q i)
-  all-here v b s [] rs a q i res n j e = absurd j
-  all-here v b s (p ∷ ps) [] a q i res n j e = absurd res
-  all-here v b s (p ∷ ps) (r ∷ rs) a q i res n (inl k) e = record {
-    r = r;
-    o = res .0 .0;
-    recorded = ap (def s v) k ∙ res .0 .1;
-    alike = res .0 .2;
-    grew = all-else b ps rs (feed p b r (g .dests p) a) q i (λ j. n .0 (subst (λ (h : ℕ). In h ps) k j))
-        ∙ ap (λ (h : ℕ). feed p b r (g .dests p) a h i) k ∙ feed-here p b r i (g .dests p) a (sym (ap (λ (h : ℕ). is-dest (g .dests h) i b) k) ∙ e) ∙ ap (λ (h : ℕ). a h i ++ r ∷ []) (sym k);
+        | inr n ↦ rw (put-other c (s .params c ++ x ∷ []) (s .params) b n, elsewhere b n) (h .listed .split b)
+      ];
+      pars = λ b y i. elim (same? b c) [
+        | inl q ↦ elim (in-cases y (s .params c) (x ∷ []) (rw (put-at c (s .params c ++ x ∷ []) (s .params) b q) at i)) [
+          | inl j ↦ old-par b y (h .listed .pars b y (rw q j))
+          | inr j ↦ rw (q, in-one y x j) new-par
+        ]
+        | inr n ↦ old-par b y (h .listed .pars b y (rw (put-other c (s .params c ++ x ∷ []) (s .params) b n) at i))
+      ];
+      nodup = λ b. elim (same? b c) [
+        | inl q ↦ rw (put-at c (s .params c ++ x ∷ []) (s .params) b q) (nodup-snoc (s .params c) x (h .listed .nodup c) (λ i. omega (arith, h .listed .pars c x i .below)))
+        | inr n ↦ rw (put-other c (s .params c ++ x ∷ []) (s .params) b n) (h .listed .nodup b)
+      ];
+      bare = h .listed .bare;
+    };
+    passed = h .passed;
+    aliased = record {
+      tree = tree-suc (s .target) (s .next) (h .aliased .tree);
+      fresh = λ y l. h .aliased .fresh y (omega arith);
+      roots = λ y n. elim (same? y (s .next)) [
+        | inl e ↦ h .aliased .fresh y (omega arith)
+        | inr d ↦ h .aliased .roots y (λ q. n (ap (λ (j : Info). j .sort) (put-other (s .next) new (s .info) y d) ∙ q))
+      ];
+    };
   }
-  all-here v b s (p ∷ ps) (r ∷ rs) a q i res n (inr j) e =
-      let k = all-here v b s ps rs (feed p b r (g .dests p) a) q i (res .1) (n .1) j e in
-      record {
-        r = k .r;
-        o = k .o;
-        recorded = k .recorded;
-        alike = k .alike;
-        grew = k .grew ∙ ap (λ (l : List ℕ). l ++ k .r ∷ []) (feed-else p b r q i (g .dests p) a (λ h. n .0 (subst (λ (u : ℕ). In u ps) h j)));
-      }

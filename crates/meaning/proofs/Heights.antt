@@ -1,68 +1,26 @@
 -- How high the two stacks of the machine grow: what is scheduled plus what could still be scheduled never grows. Assumes nothing.
-use Prim.Native.Nat.{ℕ, zero, suc, _+_, _*_, _<_, _≤_}
-use mathlib.Core.Path.{_≡_, refl, sym, ap, _∙_, subst}
-use mathlib.Core.Logic.{_≢_, _⊎_, inl, inr}
-use mathlib.Core.Bool.{Bool, true, false, cond}
+use Prim.Native.Nat.{ℕ, zero, suc, _+_, _<_, _≤_}
+use mathlib.Core.Path.{_≡_, refl, ap, _∙_}
+use mathlib.Core.Logic.{inl, inr}
+use mathlib.Core.Bool.{Bool, true, false}
 use mathlib.Core.Option.{Option, none, some}
 use mathlib.Core.List.{List, [], _∷_, _++_, map, reverse}
-use lib.Dec.{eqb}
-use lib.ListN.{length, take, drop, length-append, length-drop, length-map}
+use lib.ListN.{length, take, length-append, length-drop, length-map}
 use native.Mathlib.Omega.{arith}
-use native.Mathlib.Nat.{le-trans, not-suc-le-zero}
-use Rattle.definition.specs.Base.{put, put₂, orElse, before, every, without}
+use Rattle.definition.specs.Base.{before, without}
 use Rattle.definition.specs.Form.{Graph, Form, def}
-use Rattle.definition.specs.Read.{Got, mark, mark-one, new-param, wait, walk, settle, resolve}
-use Rattle.meaning.specs.Machine.{Task, look, finish, Conf, conf, schedule, open-param, find, visit, settle-top, turn, turns}
+use Rattle.definition.specs.Read.{mark, new-param, wait, walk, settle, resolve}
+use Rattle.meaning.specs.Machine.{Task, look, finish, Conf, conf, schedule, open-param, find, visit, turn, turns}
 use Rattle.meaning.specs.Path.{In}
-use Rattle.meaning.proofs.Maps.{same?}
-use Rattle.meaning.proofs.Lists.{put₂-at, put₂-other, here?}
-use Rattle.meaning.proofs.Reading.{Sound, Walked, walked}
-use Rattle.meaning.proofs.Machine.{Has, or-has, Somes, mark-somes, settle-somes, param-somes}
+use Rattle.meaning.proofs.Reading.{Sound, walked}
+use Rattle.meaning.proofs.Lacking.{Somes, mark-somes, settle-somes, param-somes, weigh-mono, weigh, weigh-drop, param-has}
 
--- what the blocks without a definition weigh
-abbrev pub weight : ℕ → Option ℕ → ℕ
-weight w none = w
-weight w (some x) = 0
-
-abbrev pub weigh : (ℕ → ℕ) → ℕ → Form → ℕ → ℕ
-weigh f v s zero = zero
-weigh f v s (suc n) = weight (f n) (def s v n) + weigh f v s n
-
-weight-has : (w : ℕ) (a b : Option ℕ) → (Has a → Has b) → weight w b ≤ weight w a
-weight-has w none none h = omega arith
-weight-has w none (some y) h = omega arith
-weight-has w (some x) b h = let k = h (x, refl) in subst (λ (c : Option ℕ). weight w c ≤ 0) (sym (k .1)) (omega arith)
-
-pub weigh-mono : (f : ℕ → ℕ) (v : ℕ) (s s′ : Form) → Somes s s′ → (n : ℕ) → weigh f v s′ n ≤ weigh f v s n
-weigh-mono f v s s′ h zero = omega arith
-weigh-mono f v s s′ h (suc n) = omega (arith, weight-has (f n) (def s v n) (def s′ v n) (h v n), weigh-mono f v s s′ h n)
-
-pub weigh-drop : (f : ℕ → ℕ) (v : ℕ) (s s′ : Form) → Somes s s′ → (c : ℕ) → def s v c ≡ none → Has (def s′ v c) → (n : ℕ) → c < n → f c + weigh f v s′ n ≤ weigh f v s n
-weigh-drop f v s s′ h c p q zero l = absurd (not-suc-le-zero l)
-weigh-drop f v s s′ h c p q (suc n) l = by (same? n c) (weigh-drop f v s s′ h c p q n)
-  where
-    by : (n ≡ c) ⊎ (n ≢ c) → (c < n → f c + weigh f v s′ n ≤ weigh f v s n) → f c + weigh f v s′ (suc n) ≤ weigh f v s (suc n)
-    by (inl e) below = omega (arith, ap (weight (f n)) (ap (def s v) e ∙ p), ap (weight (f n)) (ap (def s′ v) e ∙ q .1), ap f e, weigh-mono f v s s′ h n)
-    by (inr d) below = omega (arith, weight-has (f n) (def s v n) (def s′ v n) (h v n), below (omega arith))
-
-module _ (g : Graph) (G : Sound g) (v : ℕ) (lv : v < length (g .types)) where
-  abbrev pub calls-left : Form → ℕ
-  calls-left s = weigh (λ b. suc (length (g .preds b))) v s (g .blocks)
-
-  abbrev pub looks-left : Form → ℕ
-  looks-left s = weigh (λ b. length (g .preds b)) v s (g .blocks)
-
+module _ (g : Graph) where
   -- every predecessor to look at is a block
   abbrev pub Low : List Task → Type 0
   Low [] = Unit {0}
   Low (look p ∷ ts) = (p < g .blocks) × Low ts
   Low (finish x b ∷ ts) = Low ts
-
-  -- the stacks and what could still come onto them
-  pub record Within (a b : ℕ) (c : Conf) : Type 0 where
-    pub low : Low (c .tasks)
-    pub calls : length (c .tasks) + calls-left (c .form) ≤ a
-    pub both : length (c .results) + length (c .tasks) + looks-left (c .form) ≤ b
 
   pub low-more : (ps : List ℕ) (ts : List Task) → ((p : ℕ) → In p ps → p < g .blocks) → Low ts → Low (map look ps ++ ts)
   low-more [] ts h l = l
@@ -71,18 +29,32 @@ module _ (g : Graph) (G : Sound g) (v : ℕ) (lv : v < length (g .types)) where
   pub schedule-length : (x c : ℕ) (ts : List Task) → length (schedule g x c ts) ≡ suc (length (g .preds c) + length ts)
   schedule-length x c ts = length-append (map look (g .preds c)) (finish x c ∷ ts) ∙ ap (λ (n : ℕ). n + suc (length ts)) (length-map (g .preds c) look) ∙ omega arith
 
+module _ (g : Graph) (v : ℕ) where
+  abbrev pub calls-left : Form → ℕ
+  calls-left s = weigh (λ b. suc (length (g .preds b))) v s (g .blocks)
+
+  abbrev pub looks-left : Form → ℕ
+  looks-left s = weigh (λ b. length (g .preds b)) v s (g .blocks)
+
+  -- the stacks and what could still come onto them
+  pub record Within (a b : ℕ) (c : Conf) : Type 0 where
+    pub low : Low g (c .tasks)
+    pub calls : length (c .tasks) + calls-left (c .form) ≤ a
+    pub both : length (c .results) + length (c .tasks) + looks-left (c .form) ≤ b
+
+module _ (g : Graph) (G : Sound g) (v : ℕ) where
   -- the first turn, and each look: one call fewer is on its way
-  pub visit-within : (a b p : ℕ) (ts : List Task) (rs : List ℕ) (s : Form) → p < g .blocks → Low ts → length ts + calls-left s ≤ a → suc (length rs) + length ts + looks-left s ≤ b → Within a b (visit g v p ts rs s (def s v p))
+  pub visit-within : (a b p : ℕ) (ts : List Task) (rs : List ℕ) (s : Form) → p < g .blocks → Low g ts → length ts + calls-left g v s ≤ a → suc (length rs) + length ts + looks-left g v s ≤ b → Within g v a b (visit g v p ts rs s (def s v p))
   visit-within a b p ts rs s lp hl hc hb = by (def s v p) refl
     where
-      by : (d : Option ℕ) → def s v p ≡ d → Within a b (visit g v p ts rs s d)
+      by : (d : Option ℕ) → def s v p ≡ d → Within g v a b (visit g v p ts rs s d)
       by (some x) e = record { low = hl; calls = omega (arith, hc); both = omega (arith, hb) }
       by none e =
           let w = walk (suc (g .blocks)) g s v [] p in
-          let y = walked g G v lv (suc (g .blocks)) s [] p lp e in
+          let y = walked g G v (suc (g .blocks)) s [] p lp e in
           past (w .passed) (w .end) (w .met) (y .low) (y .unmet)
         where
-          past : (over : List ℕ) (c : ℕ) (m : Option ℕ) → c < g .blocks → (m ≡ none → def s v c ≡ none) → Within a b (find g v ts rs s over c m)
+          past : (over : List ℕ) (c : ℕ) (m : Option ℕ) → c < g .blocks → (m ≡ none → def s v c ≡ none) → Within g v a b (find g v ts rs s over c m)
           past over c (some x) lc un = record {
             low = hl;
             calls = omega (arith, hc, weigh-mono (λ d. suc (length (g .preds d))) v s (mark v x over s) (mark-somes v x over s) (g .blocks));
@@ -93,25 +65,18 @@ module _ (g : Graph) (G : Sound g) (v : ℕ) (lv : v < length (g .types)) where
               x : ℕ
               x = s .next
 
-              or-some : (o : Option ℕ) → Has (orElse o (some x))
-              or-some (some y) = (y, refl)
-              or-some none = (x, refl)
-
-              has-c : Has (def (new-param g v c s) v c)
-              has-c = or-has (s .own v c) (some x) (put₂ v c (some x) (s .entry) v c) (λ _. (x, put₂-at v c (some x) (s .entry) v c refl refl)) (or-some (s .own v c))
-
               up : (t : Form) → Somes (new-param g v c s) t → Somes s (mark v x (before c over) t)
-              up t k w d o = mark-somes v x (before c over) t w d (k w d (param-somes g G v lv c s w d o))
+              up t k w d o = mark-somes v x (before c over) t w d (k w d (param-somes g v c s w d o))
 
-              seal : (z : Bool) → Within a b (open-param g v c x (before c over) ts rs (new-param g v c s) z)
+              seal : (z : Bool) → Within g v a b (open-param g v c x (before c over) ts rs (new-param g v c s) z)
               seal true =
                   let t = mark v x (before c over) (new-param g v c s) in
                   let k = up (new-param g v c s) (λ w d o. o) in
-                  let at = mark-somes v x (before c over) (new-param g v c s) v c has-c in
+                  let at = mark-somes v x (before c over) (new-param g v c s) v c (param-has g v c s) in
                   record {
-                    low = low-more (g .preds c) (finish x c ∷ ts) (λ q i. G .range c q i) hl;
-                    calls = omega (arith, hc, schedule-length x c ts, weigh-drop (λ d. suc (length (g .preds d))) v s t k c (un refl) at (g .blocks) lc);
-                    both = omega (arith, hb, schedule-length x c ts, weigh-drop (λ d. length (g .preds d)) v s t k c (un refl) at (g .blocks) lc);
+                    low = low-more g (g .preds c) (finish x c ∷ ts) (λ q i. G .range c q i) hl;
+                    calls = omega (arith, hc, schedule-length g x c ts, weigh-drop (λ d. suc (length (g .preds d))) v s t k c (un refl) at (g .blocks) lc);
+                    both = omega (arith, hb, schedule-length g x c ts, weigh-drop (λ d. length (g .preds d)) v s t k c (un refl) at (g .blocks) lc);
                   }
               seal false =
                   let t = mark v x (before c over) (wait v c x (new-param g v c s)) in
@@ -122,7 +87,7 @@ module _ (g : Graph) (G : Sound g) (v : ℕ) (lv : v < length (g .types)) where
                     both = omega (arith, hb, weigh-mono (λ d. length (g .preds d)) v s t k (g .blocks));
                   }
 
-  pub turn-within : (a b : ℕ) (ts : List Task) (rs : List ℕ) (s : Form) → Within a b (conf ts rs s) → Within a b (turn g v ts rs s)
+  pub turn-within : (a b : ℕ) (ts : List Task) (rs : List ℕ) (s : Form) → Within g v a b (conf ts rs s) → Within g v a b (turn g v ts rs s)
   turn-within a b [] rs s h = h
   turn-within a b (finish x c ∷ ts) rs s h =
       let n = length (g .preds c) in
@@ -136,6 +101,6 @@ module _ (g : Graph) (G : Sound g) (v : ℕ) (lv : v < length (g .types)) where
   turn-within a b (look p ∷ ts) rs s h = visit-within a b p ts rs s (h .low .0) (h .low .1) (omega (arith, h .calls)) (omega (arith, h .both))
 
   -- at every moment of a run
-  pub run-within : (n a b : ℕ) (c : Conf) → Within a b c → Within a b (turns n g v c)
+  pub run-within : (n a b : ℕ) (c : Conf) → Within g v a b c → Within g v a b (turns n g v c)
   run-within zero a b c h = h
   run-within (suc n) a b c h = run-within n a b (turn g v (c .tasks) (c .results) (c .form)) (turn-within a b (c .tasks) (c .results) (c .form) h)

@@ -1,173 +1,172 @@
--- A parameter that is kept. Assumes nothing.
-use Prim.Native.Nat.{ℕ, zero, suc, _+_, _<_, _≤_}
-use mathlib.Core.Path.{_≡_, refl, sym, ap, _∙_, subst}
+-- A parameter that is kept keeps the invariant: each destination that names its block gets one argument more, the result of its own predecessor.
+-- Assumes nothing.
+use Prim.Native.Nat.{ℕ, zero, suc, _<_}
+use mathlib.Core.Path.{_≡_, refl, sym, ap, _∙_}
 use mathlib.Core.Logic.{_≢_, _⊎_, inl, inr}
-use mathlib.Core.Bool.{Bool, true, false, cond, _&&_}
-use mathlib.Core.Option.{Option, none, some, Option·none-ne-some}
+use mathlib.Core.Bool.{true, false}
+use mathlib.Core.Option.{some}
 use mathlib.Core.List.{List, [], _∷_, _++_, append-assoc}
 use lib.Dec.{eqb}
 use lib.ListN.{length, getD, length-append}
 use native.Mathlib.Omega.{arith}
-use native.Mathlib.Nat.{le-trans, le-of-suc-le-suc, not-suc-le-zero}
-use Rattle.definition.specs.Base.{put, put₂, without, orElse}
-use Rattle.definition.specs.Form.{Graph, Form, Info, Sort, made, param, nought, def, with-args}
-use Rattle.definition.specs.Read.{resolve, follow, type-of, mark-one, make, alias, set-params, is-dest, feed, feed-all}
+use native.Mathlib.Nat.{not-suc-le-zero, le-of-suc-le-suc}
+use Rattle.definition.specs.Base.{put}
+use Rattle.definition.specs.Form.{Graph, Form, def, with-args}
+use Rattle.definition.specs.Read.{resolve, is-dest, feed-all, feed}
 use Rattle.meaning.specs.Path.{In}
-use Rattle.meaning.proofs.Maps.{same?, put-same, put-other, put-at, eqb-same, eqb-diff, eqb-eq, some-inj}
-use Rattle.meaning.proofs.Facts.{arg-of, Edge, same, kept}
-use Rattle.meaning.proofs.Alias.{Tree, tree-suc, follow-suc, follow-root}
-use Rattle.meaning.proofs.Lists.{in-left, in-right, in-cases, Nodup, nodup-snoc, nodup-apart, nodup-right, PIn, snds, snds-append, pin-snds, pin-left, pin-last, pin-cases, arg-more, arg-last, put₂-at, put₂-other, here?}
-use Rattle.meaning.proofs.Inv.{Grow, grow-refl, def-grow, pending, Nought, Param, Inv, edge-grow, nought-grow, nought-same, pending-par, kept-par, in-one}
-use Rattle.meaning.proofs.Growing.{dest-yes, dest-is, Results, Got-one, all-not, all-else, all-here, one-more}
+use Rattle.meaning.specs.Stored.{Nodup}
+use Rattle.meaning.proofs.Maps.{same?, put-same, put-other, put-at, some-inj, false-true, bool?, eqb-eq, eqb-same, eqb-diff}
+use Rattle.meaning.proofs.Facts.{Edge, kept, arg-of}
+use Rattle.meaning.proofs.Alias.{follow-root}
+use Rattle.meaning.proofs.Lists.{in-left, in-right, snds, arg-more, arg-last}
+use Rattle.meaning.proofs.Inv.{Inv, edge-grow, x-par, was-pending, kept-root, grow-refl, not-kept, still-pending, parts}
 
-bool? : (b : Bool) → (b ≡ true) ⊎ (b ≡ false)
-bool? true = inl refl
-bool? false = inr refl
+pub dest-yes : (ds : List ℕ) (i b : ℕ) → i < length ds → getD ds i 0 ≡ b → is-dest ds i b ≡ true
+dest-yes [] i b l e = absurd (not-suc-le-zero l)
+dest-yes (d ∷ ds) zero b l e = ap (λ (k : ℕ). eqb k b) e ∙ eqb-same b
+dest-yes (d ∷ ds) (suc i) b l e = dest-yes ds i b (le-of-suc-le-suc l) e
 
-pub false-true : {b : Bool} → b ≡ false → b ≡ true → ⊥
-false-true p q = let z : _≡_ {A = ℕ} 0 1 = cc in omega arith
+dest-is : (ds : List ℕ) (i b : ℕ) → is-dest ds i b ≡ true → (i < length ds) × (getD ds i 0 ≡ b)
+dest-is [] i b e = absurd (false-true refl e)
+dest-is (d ∷ ds) zero b e = (omega arith, eqb-eq d b e)
+dest-is (d ∷ ds) (suc i) b e = let r = dest-is ds i b e in (omega (arith, r .0), r .1)
 
-module _ (g : Graph) where
-  dest-no : (ds : List ℕ) (i b c : ℕ) → getD ds i 0 ≡ c → c ≢ b → is-dest ds i b ≡ false
-  dest-no ds i b c e n = by (bool? (is-dest ds i b))
-    where
-      by : (is-dest ds i b ≡ true) ⊎ (is-dest ds i b ≡ false) → is-dest ds i b ≡ false
-      by (inl q) = absurd (n (sym e ∙ dest-is g ds i b q .1))
-      by (inr q) = q
+-- feeding reaches the destinations of p that are b, and nothing else
+feed-here : (p b x i : ℕ) (ds : List ℕ) (a : ℕ → ℕ → List ℕ) → is-dest ds i b ≡ true → feed p b x ds a p i ≡ a p i ++ x ∷ []
+feed-here p b x i ds a e = rw (eqb-same p) (rw e refl)
 
-  pub result-of : (v : ℕ) (s : Form) (ps rs : List ℕ) (q : ℕ) → Results g v s ps rs → In q ps → (r o : ℕ) × (def s v q ≡ some o) × (resolve s r ≡ resolve s o) × In r rs
-  result-of v s [] rs q h i = absurd i
-  result-of v s (p ∷ ps) [] q h i = absurd h
-  result-of v s (p ∷ ps) (r ∷ rs) q h (inl e) = (r, h .0 .0, ap (def s v) e ∙ h .0 .1, h .0 .2, inl refl)
-  result-of v s (p ∷ ps) (r ∷ rs) q h (inr i) = let k = result-of v s ps rs q (h .1) i in (k .0, k .1, k .2, k .3, inr (k .4))
+feed-else : (p b x q i : ℕ) (ds : List ℕ) (a : ℕ → ℕ → List ℕ) → (q ≡ p → is-dest ds i b ≡ false) → feed p b x ds a q i ≡ a q i
+feed-else p b x q i ds a n = elim (same? q p) [ inl e ↦ rw (e, eqb-same p, n e) refl | inr d ↦ rw (eqb-diff q p d) refl ]
 
-module _ (g : Graph) (E : Type 0) where
-  module _ (s : Form) (kp : ℕ → List ℕ) (op : ℕ → List (ℕ × ℕ)) (h : Inv g E s kp op) (v b x : ℕ) (ws : List (ℕ × ℕ))
-      (seal : g .sealed b ≡ true) (at : op b ≡ (v, x) ∷ ws) (rs : List ℕ) (len : length rs ≡ length (g .preds b)) (res : E → Results g v s (g .preds b) rs) (nd : Nodup (g .preds b)) (some-pred : g .preds b ≡ [] → ⊥) where
-    work : pending g s op b ≡ (v, x) ∷ ws
-    work = rw seal at
+-- r is the result of the predecessor q
+abbrev Pairs : ℕ → ℕ → List ℕ → List ℕ → Type 0
+Pairs q r [] rs = ⊥
+Pairs q r (p ∷ ps) [] = ⊥
+Pairs q r (p ∷ ps) (t ∷ rs) = ((q ≡ p) × (r ≡ t)) ⊎ Pairs q r ps rs
 
-    x-in : In x (s .params b)
-    x-in = pending-par g E s kp op h v b x (subst (λ (l : List (ℕ × ℕ)). PIn v x l) (sym work) (inl (refl, refl)))
+module _ (g : Graph) (b : ℕ) where
+  all-else : (ps rs : List ℕ) (a : ℕ → ℕ → List ℕ) (q i : ℕ) → (In q ps → is-dest (g .dests q) i b ≡ false) → feed-all g b ps rs a q i ≡ a q i
+  all-else [] rs a q i n = refl
+  all-else (p ∷ ps) [] a q i n = refl
+  all-else (p ∷ ps) (r ∷ rs) a q i n = all-else ps rs (feed p b r (g .dests p) a) q i (λ j. n (inr j)) ∙ feed-else p b r q i (g .dests p) a (λ e. rw e at (n (inl e)))
 
-    abbrev s′ : Form
-    s′ = with-args s (feed-all g b (g .preds b) rs (s .args))
+  -- where there is a result for each predecessor, each destination gets its predecessor's
+  all-here : (ps rs : List ℕ) (a : ℕ → ℕ → List ℕ) (q i : ℕ) → length rs ≡ length ps → Nodup ps → In q ps → is-dest (g .dests q) i b ≡ true
+      → (r : ℕ) × (feed-all g b ps rs a q i ≡ a q i ++ r ∷ []) × Pairs q r ps rs
+  all-here (p ∷ ps) [] a q i len n j e = absurd (omega (arith, len))
+  all-here (p ∷ ps) (r ∷ rs) a q i len n (inl k) e = (
+    r,
+    all-else ps rs (feed p b r (g .dests p) a) q i (λ j. absurd (n .0 (rw k at j))) ∙ rw k (feed-here p b r i (g .dests p) a (rw k at e)),
+    inl (k, refl),
+  )
+  all-here (p ∷ ps) (r ∷ rs) a q i len n (inr j) e =
+      let k = all-here ps rs (feed p b r (g .dests p) a) q i (omega (arith, len)) (n .1) j e in
+      (k .0, k .1 ∙ ap (λ (l : List ℕ). l ++ k .0 ∷ []) (feed-else p b r q i (g .dests p) a (λ h. absurd (n .0 (rw h at j)))), inr (k .2))
 
-    abbrev kp′ : ℕ → List ℕ
-    kp′ = put b (kp b ++ x ∷ []) kp
+-- each predecessor's result stands for what it records of v
+abbrev pub Results : ℕ → Form → List ℕ → List ℕ → Type 0
+Results v s [] [] = Unit {0}
+Results v s [] (r ∷ rs) = ⊥
+Results v s (p ∷ ps) [] = ⊥
+Results v s (p ∷ ps) (r ∷ rs) = ((o : ℕ) × (def s v p ≡ some o) × (resolve s r ≡ resolve s o)) × Results v s ps rs
 
-    abbrev op′ : ℕ → List (ℕ × ℕ)
-    op′ = put b ws op
+pub results-length : (v : ℕ) (s : Form) (ps rs : List ℕ) → Results v s ps rs → length rs ≡ length ps
+results-length v s [] [] h = refl
+results-length v s (p ∷ ps) (r ∷ rs) h = ap suc (results-length v s ps rs (h .1))
 
-    pub keep-grow : Grow s s′
-    keep-grow = record { own = λ w c. refl; entry = λ w c e q. q; res = λ y z q. q; info = λ z l. refl; more = omega arith }
+result-at : (v : ℕ) (s : Form) (ps rs : List ℕ) (q r : ℕ) → Results v s ps rs → Pairs q r ps rs → (o : ℕ) × (def s v q ≡ some o) × (resolve s r ≡ resolve s o)
+result-at v s (p ∷ ps) (t ∷ rs) q r h (inl k) = rw (k .0, k .1) (h .0)
+result-at v s (p ∷ ps) (t ∷ rs) q r h (inr k) = result-at v s ps rs q r (h .1) k
 
-    now-at : (c : ℕ) → c ≡ b → pending g s′ op′ c ≡ ws
-    now-at c q = ap (pending g s′ op′) q ∙ rw seal (put-same b ws op)
+pub result-of : (v : ℕ) (s : Form) (ps rs : List ℕ) (q : ℕ) → Results v s ps rs → In q ps → (r o : ℕ) × (def s v q ≡ some o) × (resolve s r ≡ resolve s o) × In r rs
+result-of v s (p ∷ ps) (r ∷ rs) q h (inl e) = (r, h .0 .0, ap (def s v) e ∙ h .0 .1, h .0 .2, inl refl)
+result-of v s (p ∷ ps) (r ∷ rs) q h (inr i) = let k = result-of v s ps rs q (h .1) i in (k .0, k .1, k .2, k .3, inr (k .4))
 
-    now-else : (c : ℕ) → c ≢ b → pending g s′ op′ c ≡ pending g s op c
-    now-else c n = rw (put-other b ws op c n)
+-- 5. the parameter x of b, the first that is at work there, is kept
+module _ (g : Graph) (E : Type 0) (s : Form) (kp : ℕ → List ℕ) (op : ℕ → List (ℕ × ℕ)) (h : Inv g E s kp op) (v b x : ℕ) (ws : List (ℕ × ℕ))
+    (seal : g .sealed b ≡ true) (at : op b ≡ (v, x) ∷ ws) (rs : List ℕ) (len : length rs ≡ length (g .preds b)) (res : E → Results v s (g .preds b) rs)
+    (nd : Nodup (g .preds b)) (some-pred : g .preds b ≡ [] → ⊥) where
+  abbrev s′ : Form
+  s′ = with-args s (feed-all g b (g .preds b) rs (s .args))
 
-    work-at : (c : ℕ) → c ≡ b → pending g s op c ≡ (v, x) ∷ ws
-    work-at c q = ap (pending g s op) q ∙ work
+  abbrev kp′ : ℕ → List ℕ
+  kp′ = put b (kp b ++ x ∷ []) kp
 
-    kp-at : (c : ℕ) → c ≡ b → kp′ c ≡ kp c ++ x ∷ []
-    kp-at c q = put-at b (kp b ++ x ∷ []) kp c q ∙ ap (λ (k : ℕ). kp k ++ x ∷ []) (sym q)
+  abbrev op′ : ℕ → List (ℕ × ℕ)
+  op′ = put b ws op
 
-    kp-else : (c : ℕ) → c ≢ b → kp′ c ≡ kp c
-    kp-else c n = put-other b (kp b ++ x ∷ []) kp c n
+  kp-at : (c : ℕ) → c ≡ b → kp′ c ≡ kp c ++ x ∷ []
+  kp-at c q = put-at b (kp b ++ x ∷ []) kp c q ∙ ap (λ (k : ℕ). kp k ++ x ∷ []) (sym q)
 
-    parts : s .params b ≡ kp b ++ x ∷ snds ws
-    parts = h .split b ∙ ap (λ (l : List (ℕ × ℕ)). kp b ++ snds l) work
+  kp-else : (c : ℕ) → c ≢ b → kp′ c ≡ kp c
+  kp-else c n = put-other b (kp b ++ x ∷ []) kp c n
 
-    not-kept : In x (kp b) → ⊥
-    not-kept i = nodup-apart (kp b) (x ∷ snds ws) x (subst (λ (l : List ℕ). Nodup l) parts (h .nodup b)) i (inl refl)
+  -- what a predecessor's destination got
+  took : (p i : ℕ) → In p (g .preds b) → i < length (g .dests p) → getD (g .dests p) i 0 ≡ b → (r : ℕ) × (s′ .args p i ≡ s .args p i ++ r ∷ []) × Pairs p r (g .preds b) rs
+  took p i ip lt q = all-here g b (g .preds b) rs (s .args) p i len nd ip (dest-yes (g .dests p) i b lt q)
 
-    -- what a predecessor's destination got
-    got : E → (p i : ℕ) → In p (g .preds b) → i < length (g .dests p) → getD (g .dests p) i 0 ≡ b → Got-one g v s b p i (s .args p i) (s′ .args p i)
-    got ok p i ip lt q = all-here g v b s (g .preds b) rs (s .args) p i (res ok) nd ip (dest-yes g (g .dests p) i b lt q)
+  args-else : (p i : ℕ) → getD (g .dests p) i 0 ≢ b → s′ .args p i ≡ s .args p i
+  args-else p i n = all-else g b (g .preds b) rs (s .args) p i (λ _. elim (bool? (is-dest (g .dests p) i b)) [ inl q ↦ absurd (n (dest-is (g .dests p) i b q .1)) | inr q ↦ q ])
 
-    took : (p i : ℕ) → In p (g .preds b) → i < length (g .dests p) → getD (g .dests p) i 0 ≡ b → (r : ℕ) × (s′ .args p i ≡ s .args p i ++ r ∷ []) × In r rs
-    took p i ip lt q = one-more g b (g .preds b) rs (s .args) p i len nd ip (dest-yes g (g .dests p) i b lt q)
+  new : E → Edge g s′ kp′ v b x
+  new ok = kept seal (follow-root (s .target) (s .next) x (x-par g E s kp op h v b x ws seal at .root)) (rw (kp-at b refl) (in-right x (kp b) (x ∷ []) (inl refl)))
+      (λ p ip. let k = result-of v s (g .preds b) rs p (res ok) ip in (
+        k .1,
+        k .2,
+        λ i lt q.
+            let a = took p i ip lt q in
+            let o = result-at v s (g .preds b) rs p (a .0) (res ok) (a .2) in
+            let old : length (s .args p i) ≡ length (kp b) = rw q at (h .passed .fed p i lt (rw q seal) (rw q ip)) in (
+              a .0,
+              rw (kp-at b refl, a .1) (arg-last (kp b) (s .args p i) x (a .0) (not-kept g E s kp op h v b x ws seal at b) old),
+              o .2 ∙ ap (resolve s) (some-inj (sym (o .1) ∙ k .2)),
+            ),
+      ))
 
-    args-else : (p i : ℕ) → getD (g .dests p) i 0 ≢ b → s′ .args p i ≡ s .args p i
-    args-else p i n = all-not g b (g .preds b) rs (s .args) p i (dest-no g (g .dests p) i b (getD (g .dests p) i 0) refl n)
+  -- what was kept stays, with its arguments
+  stays : (c e : ℕ) → In e (kp c) → (s .target e ≡ e) × In e (kp′ c)
+      × ((p i a : ℕ) → In p (g .preds c) → i < length (g .dests p) → getD (g .dests p) i 0 ≡ c → arg-of (kp c) (s .args p i) e ≡ some a → arg-of (kp′ c) (s′ .args p i) e ≡ some a)
+  stays c e i = elim (same? c b) [
+    | inl q ↦ (
+      kept-root g E s kp op h c e i,
+      rw (kp-at c q) (in-left e (kp c) (x ∷ []) i),
+      λ p j a ip lt d f. let o = took p j (rw q at ip) lt (d ∙ q) in rw (kp-at c q, o .1) (arg-more (kp c) (x ∷ []) (s .args p j) (o .0 ∷ []) e a f),
+    )
+    | inr n ↦ (kept-root g E s kp op h c e i, rw (kp-else c n) i, λ p j a ip lt d f. rw (kp-else c n, args-else p j (λ u. n (sym d ∙ u))) f)
+  ]
 
-    new : E → Edge g s′ kp′ v b x
-    new ok = kept seal (follow-root (s .target) (s .next) x (h .pars b x x-in .root)) (subst (λ (l : List ℕ). In x l) (sym (kp-at b refl)) (in-right x (kp b) (x ∷ []) (inl refl)))
-        (λ p ip. let k = result-of g v s (g .preds b) rs p (res ok) ip in (
-          k .1,
-          k .2,
-          λ i lt q. let a = got ok p i ip lt q in (
-            a .r,
-            rw (kp-at b refl, a .grew) (arg-last (kp b) (s .args p i) x (a .r) not-kept
-                (subst (λ (c : ℕ). length (s .args p i) ≡ length (kp c)) q (h .fed p i lt (subst (λ (c : ℕ). g .sealed c ≡ true) (sym q) seal) (subst (λ (c : ℕ). In p (g .preds c)) (sym q) ip)))),
-            a .alike ∙ ap (resolve s) (some-inj (sym (a .recorded) ∙ k .2)),
-          ),
-        ))
-
-    pub keep-inv : Inv g E s′ kp′ op′
-    keep-inv = record {
-      known = h .known;
-      edge = λ ok w c e q. edge ok w c e (same? c b) (h .edge ok w c e q);
-      first = λ ok w c e q empty. first w c e (same? c b) empty (h .first ok w c e q empty);
-      pend = λ w c z i. pend w c z (same? c b) i;
-      split = λ c. split c (same? c b);
-      pars = λ c y i. let r = h .pars c y i in record { home = r .home; sort = r .sort; root = r .root; below = r .below };
-      nodup = h .nodup;
-      bare = λ c e. kp-else c (λ q. false-true e (ap (g .sealed) q ∙ seal)) ∙ h .bare c e;
-      fed = λ p i lt sl ip. fed p i lt sl ip (same? (getD (g .dests p) i 0) b);
-      unfed = λ p i n. unfed p i n (bool? (is-dest (g .dests p) i b));
-      tree = h .tree;
-      fresh = h .fresh;
-      roots = h .roots;
-    }
-      where
-        edge : E → (w c e : ℕ) → (c ≡ b) ⊎ (c ≢ b) → PIn w e (pending g s op c) ⊎ Edge g s kp w c e → PIn w e (pending g s′ op′ c) ⊎ Edge g s′ kp′ w c e
-        edge ok w c e (inl q) (inl i) = on (subst (λ (l : List (ℕ × ℕ)). PIn w e l) (work-at c q) i)
-          where
-            on : ((w ≡ v) × (e ≡ x)) ⊎ PIn w e ws → PIn w e (pending g s′ op′ c) ⊎ Edge g s′ kp′ w c e
-            on (inl k) = inr (subst (λ (j : ℕ). Edge g s′ kp′ j c e) (sym (k .0)) (subst (λ (j : ℕ). Edge g s′ kp′ v j e) (sym q) (subst (λ (j : ℕ). Edge g s′ kp′ v b j) (sym (k .1)) (new ok))))
-            on (inr j) = inl (subst (λ (l : List (ℕ × ℕ)). PIn w e l) (sym (now-at c q)) j)
-        edge ok w c e (inr n) (inl i) = inl (subst (λ (l : List (ℕ × ℕ)). PIn w e l) (sym (now-else c n)) i)
-        edge ok w c e (inl q) (inr k) = inr (edge-grow g s s′ kp kp′ keep-grow w c e
-            (λ i. (
-              h .pars c e (kept-par g E s kp op h c e i) .root,
-              subst (λ (l : List ℕ). In e l) (sym (kp-at c q)) (in-left e (kp c) (x ∷ []) i),
-              λ p j a ip lt d f. let o = got ok p j (subst (λ (u : ℕ). In p (g .preds u)) q ip) lt (d ∙ q) in
-                  rw (kp-at c q, o .grew) (arg-more (kp c) (x ∷ []) (s .args p j) (o .r ∷ []) e a f),
-            )) k)
-        edge ok w c e (inr n) (inr k) = inr (edge-grow g s s′ kp kp′ keep-grow w c e
-            (λ i. (
-              h .pars c e (kept-par g E s kp op h c e i) .root,
-              subst (λ (l : List ℕ). In e l) (sym (kp-else c n)) i,
-              λ p j a ip lt d f. rw (kp-else c n, args-else p j (λ u. n (sym d ∙ u))) f,
-            )) k)
-
-        first : (w c e : ℕ) → (c ≡ b) ⊎ (c ≢ b) → g .preds c ≡ [] → PIn w e (pending g s op c) ⊎ Nought g s w c e → PIn w e (pending g s′ op′ c) ⊎ Nought g s′ w c e
-        first w c e (inl q) empty k = absurd (some-pred (sym (ap (g .preds) q) ∙ empty))
-        first w c e (inr n) empty (inl i) = inl (subst (λ (l : List (ℕ × ℕ)). PIn w e l) (sym (now-else c n)) i)
-        first w c e (inr n) empty (inr k) = inr (nought-same g s s′ w c e refl refl refl k)
-
-        pend : (w c z : ℕ) → (c ≡ b) ⊎ (c ≢ b) → PIn w z (pending g s′ op′ c) → (s .entry w c ≡ some z) × (s .info z .type ≡ type-of g w)
-        pend w c z (inl q) i = h .pend w c z (subst (λ (l : List (ℕ × ℕ)). PIn w z l) (sym (work-at c q)) (inr (subst (λ (l : List (ℕ × ℕ)). PIn w z l) (now-at c q) i)))
-        pend w c z (inr n) i = h .pend w c z (subst (λ (l : List (ℕ × ℕ)). PIn w z l) (now-else c n) i)
-
-        split : (c : ℕ) → (c ≡ b) ⊎ (c ≢ b) → s .params c ≡ kp′ c ++ snds (pending g s′ op′ c)
-        split c (inl q) = rw (now-at c q, kp-at c q) (ap (s .params) q ∙ parts ∙ ap (λ (k : ℕ). kp k ++ x ∷ snds ws) (sym q) ∙ sym (append-assoc (kp c) (x ∷ []) (snds ws)))
-        split c (inr n) = h .split c ∙ ap (λ (l : List (ℕ × ℕ)). kp c ++ snds l) (sym (now-else c n)) ∙ ap (λ (l : List ℕ). l ++ snds (pending g s′ op′ c)) (sym (kp-else c n))
-
-        fed : (p i : ℕ) → i < length (g .dests p) → g .sealed (getD (g .dests p) i 0) ≡ true → In p (g .preds (getD (g .dests p) i 0)) → (getD (g .dests p) i 0 ≡ b) ⊎ (getD (g .dests p) i 0 ≢ b)
-            → length (s′ .args p i) ≡ length (kp′ (getD (g .dests p) i 0))
-        fed p i lt sl ip (inl q) =
-            let o = took p i (subst (λ (u : ℕ). In p (g .preds u)) q ip) lt q in
-            let old = h .fed p i lt sl ip in
-            ap length (o .1) ∙ length-append (s .args p i) (o .0 ∷ []) ∙ ap (λ (k : ℕ). k + 1) old ∙ sym (length-append (kp (getD (g .dests p) i 0)) (x ∷ [])) ∙ ap length (sym (kp-at (getD (g .dests p) i 0) q))
-        fed p i lt sl ip (inr n) = ap length (args-else p i n) ∙ h .fed p i lt sl ip ∙ ap length (sym (kp-else (getD (g .dests p) i 0) n))
-
-        unfed : (p i : ℕ) → (i < length (g .dests p) → g .sealed (getD (g .dests p) i 0) ≡ true → In p (g .preds (getD (g .dests p) i 0)) → ⊥)
-            → (is-dest (g .dests p) i b ≡ true) ⊎ (is-dest (g .dests p) i b ≡ false) → s′ .args p i ≡ []
-        unfed p i n (inl q) =
-            let d = dest-is g (g .dests p) i b q in
-            all-else g b (g .preds b) rs (s .args) p i (λ ip. n (d .0) (ap (g .sealed) (d .1) ∙ seal) (subst (λ (u : ℕ). In p (g .preds u)) (sym (d .1)) ip)) ∙ h .unfed p i n
-        unfed p i n (inr q) = all-not g b (g .preds b) rs (s .args) p i q ∙ h .unfed p i n
+  pub keep-inv : Inv g E s′ kp′ op′
+  keep-inv = record {
+    known = h .known;
+    edge = λ ok w c e q. elim (h .edge ok w c e q) [
+      | inl i ↦ elim (was-pending g E s kp op h v b x ws seal at w c e i) [ inl k ↦ inr (rw (k .0, k .1, k .2) (new ok)) | inr j ↦ inl j ]
+      | inr k ↦ inr (edge-grow g s s′ kp kp′ (grow-refl s) w c e (stays c e) k)
+    ];
+    first = λ ok w c e q empty. elim (h .first ok w c e q empty) [
+      | inl i ↦ elim (was-pending g E s kp op h v b x ws seal at w c e i) [ inl k ↦ absurd (some-pred (rw (k .1) at empty)) | inr j ↦ inl j ]
+      | inr k ↦ inr k
+    ];
+    pend = λ w c z i. h .pend w c z (still-pending g E s kp op h v b x ws seal at w c z i);
+    listed = record {
+      split = λ c. elim (same? c b) [
+        | inl q ↦ rw (q, seal, put-same b ws op, kp-at b refl) (parts g E s kp op h v b x ws seal at ∙ sym (append-assoc (kp b) (x ∷ []) (snds ws)))
+        | inr n ↦ rw (put-other b ws op c n, kp-else c n) (h .listed .split c)
+      ];
+      pars = h .listed .pars;
+      nodup = h .listed .nodup;
+      bare = λ c e. kp-else c (λ q. false-true e (ap (g .sealed) q ∙ seal)) ∙ h .listed .bare c e;
+    };
+    passed = record {
+      fed = λ p i lt sl ip. elim (same? (getD (g .dests p) i 0) b) [
+        | inl q ↦ let o = took p i (rw q at ip) lt q in
+            omega (arith, ap length (o .1), length-append (s .args p i) (o .0 ∷ []), h .passed .fed p i lt sl ip, ap length (kp-at (getD (g .dests p) i 0) q), length-append (kp (getD (g .dests p) i 0)) (x ∷ []))
+        | inr n ↦ rw (args-else p i n, kp-else (getD (g .dests p) i 0) n) (h .passed .fed p i lt sl ip)
+      ];
+      unfed = λ p i n.
+          all-else g b (g .preds b) rs (s .args) p i (λ ip. elim (bool? (is-dest (g .dests p) i b)) [
+            | inl q ↦ let d = dest-is (g .dests p) i b q in absurd (n (d .0) (rw (d .1) seal) (rw (d .1) ip))
+            | inr q ↦ q
+          ]) ∙ h .passed .unfed p i n;
+    };
+    aliased = h .aliased;
+  }

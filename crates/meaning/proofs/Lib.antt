@@ -4,6 +4,8 @@ pub mod Maps
 pub mod Alias
 pub mod Facts
 pub mod Lists
+pub mod Sums
+pub mod Lacking
 pub mod Inv
 pub mod Growing
 pub mod Keeping
@@ -18,9 +20,8 @@ pub mod Ranges
 pub mod Along
 pub mod Machine
 pub mod Heights
-pub mod Count
 pub mod Fall
-pub mod Room
+pub mod Load
 pub mod Mid
 pub mod Rest
 pub mod Demand
@@ -29,6 +30,7 @@ pub mod Rooms
 pub mod Causes
 pub mod Chains
 pub mod Port
+pub mod Enough
 pub mod Stored
 pub mod Steady
 pub mod Turns
@@ -36,3 +38,5 @@ pub mod Decide
 pub mod Suppositions
 pub mod Trace
 pub mod Needed
+pub mod Answers
+pub mod Theorems

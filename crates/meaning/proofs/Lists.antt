@@ -1,16 +1,18 @@
 -- Lists of numbers: membership, no duplicates, arguments by parameter. Assumes nothing.
-use Prim.Native.Nat.{ℕ, zero, suc, _+_, _<_, _≤_}
+pub use Rattle.meaning.specs.Stored.{Nodup}
+use Prim.Native.Nat.{_<_, zero, ℕ, _+_, suc}
 use mathlib.Core.Path.{_≡_, refl, sym, ap, _∙_, subst}
-use mathlib.Core.Logic.{_≢_, _⊎_, inl, inr}
-use mathlib.Core.Bool.{Bool, true, false, cond}
+use mathlib.Core.Logic.{⊎-map, _≢_, _⊎_, inl, inr}
+use mathlib.Core.Bool.{Bool, true, false, cond, _||_}
 use mathlib.Core.Option.{Option, none, some}
-use mathlib.Core.List.{List, [], _∷_, _++_, append-assoc}
+use mathlib.Core.List.{List, [], _∷_, _++_, reverseAux, reverse, map}
 use lib.Dec.{eqb}
-use lib.ListN.{length, getD}
+use lib.ListN.{length, drop, take, getD}
+use native.Mathlib.Nat.{not-suc-le-zero, le-of-suc-le-suc}
 use native.Mathlib.Omega.{arith}
-use Rattle.definition.specs.Base.{put, put₂, without, orElse}
+use Rattle.definition.specs.Base.{without, orElse, has, put}
 use Rattle.meaning.specs.Path.{In}
-use Rattle.meaning.proofs.Maps.{same?, put-same, put-other, put-at, eqb-same, eqb-diff, eqb-eq, some-inj}
+use Rattle.meaning.proofs.Maps.{same?, eqb-same, eqb-diff, false-true, some-none, put-at, put-other}
 use Rattle.meaning.proofs.Facts.{arg-of}
 
 pub in-left : {A : Type 0} (x : A) (l r : List A) → In x l → In x (l ++ r)
@@ -22,6 +24,20 @@ pub in-right : {A : Type 0} (x : A) (l r : List A) → In x r → In x (l ++ r)
 in-right x [] r h = h
 in-right x (y ∷ l) r h = inr (in-right x l r h)
 
+pub in-one : {A : Type 0} (a b : A) → In a (b ∷ []) → a ≡ b
+in-one a b (inl e) = e
+in-one a b (inr i) = absurd i
+
+-- a list in which nothing stands is empty
+pub nil-of : {A : Type 0} (l : List A) → ((x : A) → In x l → ⊥) → l ≡ []
+nil-of [] n = refl
+nil-of (x ∷ l) n = absurd (n x (inl refl))
+
+pub getD-in : (l : List ℕ) (i : ℕ) → i < length l → In (getD l i 0) l
+getD-in [] i h = absurd (not-suc-le-zero h)
+getD-in (x ∷ l) zero h = inl refl
+getD-in (x ∷ l) (suc i) h = inr (getD-in l i (le-of-suc-le-suc h))
+
 pub in-cases : {A : Type 0} (x : A) (l r : List A) → In x (l ++ r) → In x l ⊎ In x r
 in-cases x [] r h = inr h
 in-cases x (y ∷ l) r (inl e) = inl (inl e)
@@ -31,9 +47,33 @@ in-cases x (y ∷ l) r (inr h) = more (in-cases x l r h)
     more (inl i) = inl (inr i)
     more (inr i) = inr i
 
-abbrev pub Nodup : List ℕ → Type 0
-Nodup [] = Unit {0}
-Nodup (x ∷ l) = (In x l → ⊥) × Nodup l
+pub has-in : (p : ℕ) (l : List ℕ) → In p l → has p l ≡ true
+has-in p [] i = absurd i
+has-in p (q ∷ l) (inl e) = rw (ap (λ (k : ℕ). eqb k q) e ∙ eqb-same q) refl
+has-in p (q ∷ l) (inr i) = by (eqb p q) (has-in p l i)
+  where
+    by : (b : Bool) → has p l ≡ true → b || has p l ≡ true
+    by true e = refl
+    by false e = e
+
+pub in-has : (p : ℕ) (l : List ℕ) → has p l ≡ true → In p l
+in-has p [] e = absurd (false-true refl e)
+in-has p (q ∷ l) e = by (same? p q) (in-has p l)
+  where
+    by : (p ≡ q) ⊎ (p ≢ q) → (has p l ≡ true → In p l) → In p (q ∷ l)
+    by (inl k) below = inl k
+    by (inr n) below = inr (below (rw (eqb-diff p q n) at e))
+
+pub not-has : (x : ℕ) (l : List ℕ) → (In x l → ⊥) → has x l ≡ false
+not-has x l n = by (has x l) refl
+  where
+    by : (b : Bool) → has x l ≡ b → b ≡ false
+    by true e = absurd (n (in-has x l e))
+    by false e = refl
+
+-- what stands in the list at j, where the list at k is l
+pub put-in : {A : Type 0} (a : A) (k : ℕ) (l : List A) (f : ℕ → List A) (j : ℕ) → In a (put k l f j) → ((j ≡ k) × In a l) ⊎ In a (f j)
+put-in a k l f j i = elim (same? j k) [ inl q ↦ inl (q, rw (put-at k l f j q) at i) | inr n ↦ inr (rw (put-other k l f j n) at i) ]
 
 pub nodup-snoc : (l : List ℕ) (x : ℕ) → Nodup l → (In x l → ⊥) → Nodup (l ++ x ∷ [])
 nodup-snoc [] x h n = ((λ i. i), tt)
@@ -94,11 +134,7 @@ nodup-without x (z ∷ l) h = by (eqb z x) (nodup-without x l (h .1))
     by true n = n
     by false n = (λ i. h .0 (without-in x l z i .0), n)
 
--- pairs of a variable and its parameter
-abbrev pub PIn : ℕ → ℕ → List (ℕ × ℕ) → Type 0
-PIn w x [] = ⊥
-PIn w x (q ∷ qs) = ((w ≡ q .0) × (x ≡ q .1)) ⊎ PIn w x qs
-
+-- the second of each pair
 abbrev pub snds : List (ℕ × ℕ) → List ℕ
 snds [] = []
 snds (q ∷ qs) = q .1 ∷ snds qs
@@ -107,34 +143,14 @@ pub snds-append : (l r : List (ℕ × ℕ)) → snds (l ++ r) ≡ snds l ++ snds
 snds-append [] r = refl
 snds-append (q ∷ l) r = ap {B = List ℕ} (λ k. q .1 ∷ k) (snds-append l r)
 
-pub pin-snds : (w x : ℕ) (l : List (ℕ × ℕ)) → PIn w x l → In x (snds l)
-pin-snds w x [] h = h
-pin-snds w x (q ∷ l) (inl e) = inl (e .1)
-pin-snds w x (q ∷ l) (inr h) = inr (pin-snds w x l h)
-
-pub pin-left : (w x : ℕ) (l r : List (ℕ × ℕ)) → PIn w x l → PIn w x (l ++ r)
-pin-left w x [] r h = absurd h
-pin-left w x (q ∷ l) r (inl e) = inl e
-pin-left w x (q ∷ l) r (inr h) = inr (pin-left w x l r h)
-
-pub pin-last : (w x : ℕ) (l : List (ℕ × ℕ)) → PIn w x (l ++ (w, x) ∷ [])
-pin-last w x [] = inl (refl, refl)
-pin-last w x (q ∷ l) = inr (pin-last w x l)
-
-pub pin-cases : (w x v y : ℕ) (l : List (ℕ × ℕ)) → PIn w x (l ++ (v, y) ∷ []) → PIn w x l ⊎ ((w ≡ v) × (x ≡ y))
-pin-cases w x v y [] (inl e) = inr e
-pin-cases w x v y [] (inr h) = absurd h
-pin-cases w x v y (q ∷ l) (inl e) = inl (inl e)
-pin-cases w x v y (q ∷ l) (inr h) = more (pin-cases w x v y l h)
-  where
-    more : PIn w x l ⊎ ((w ≡ v) × (x ≡ y)) → PIn w x (q ∷ l) ⊎ ((w ≡ v) × (x ≡ y))
-    more (inl i) = inl (inr i)
-    more (inr i) = inr i
+pub in-snds : (w x : ℕ) (l : List (ℕ × ℕ)) → In (w, x) l → In x (snds l)
+in-snds w x (q ∷ l) (inl e) = inl (ap (λ (p : ℕ × ℕ). p .1) e)
+in-snds w x (q ∷ l) (inr i) = inr (in-snds w x l i)
 
 -- arguments
 pub arg-more : (K L U Z : List ℕ) (e a : ℕ) → arg-of K U e ≡ some a → arg-of (K ++ L) (U ++ Z) e ≡ some a
-arg-more [] L U Z e a h = absurd (mathlib.Core.Option.Option·none-ne-some a h)
-arg-more (k ∷ K) L [] Z e a h = absurd (mathlib.Core.Option.Option·none-ne-some a h)
+arg-more [] L U Z e a h = absurd (some-none h refl)
+arg-more (k ∷ K) L [] Z e a h = absurd (some-none h refl)
 arg-more (k ∷ K) L (u ∷ U) Z e a h = by (eqb e k) (arg-more K L U Z e a) h
   where
     by : (b : Bool) → (arg-of K U e ≡ some a → arg-of (K ++ L) (U ++ Z) e ≡ some a) → cond b (some u) (arg-of K U e) ≡ some a → cond b (some u) (arg-of (K ++ L) (U ++ Z) e) ≡ some a
@@ -147,27 +163,68 @@ arg-last [] (u ∷ U) e a n h = absurd (omega arith)
 arg-last (k ∷ K) [] e a n h = absurd (omega arith)
 arg-last (k ∷ K) (u ∷ U) e a n h = rw (eqb-diff e k (λ q. n (inl q))) (arg-last K U e a (λ i. n (inr i)) (omega arith))
 
--- maps of two keys
-module _ {A : Type 0} where
-  pub put₂-at : (k l : ℕ) (a : A) (f : ℕ → ℕ → A) (i j : ℕ) → i ≡ k → j ≡ l → put₂ k l a f i j ≡ a
-  put₂-at k l a f i j p q = ap (λ (h : ℕ → A). h j) (put-at k (put l a (f k)) f i p) ∙ put-at l a (f k) j q
-
-  pub put₂-other : (k l : ℕ) (a : A) (f : ℕ → ℕ → A) (i j : ℕ) → (i ≡ k → j ≡ l → ⊥) → put₂ k l a f i j ≡ f i j
-  put₂-other k l a f i j n = by (same? i k)
-    where
-      by : (i ≡ k) ⊎ (i ≢ k) → put₂ k l a f i j ≡ f i j
-      by (inl p) = ap (λ (h : ℕ → A). h j) (put-at k (put l a (f k)) f i p) ∙ put-other l a (f k) j (n p) ∙ ap (λ (h : ℕ). f h j) (sym p)
-      by (inr p) = ap (λ (h : ℕ → A). h j) (put-other k (put l a (f k)) f i p)
-
--- is it this pair of keys?
-pub here? : (i k j l : ℕ) → ((i ≡ k) × (j ≡ l)) ⊎ (i ≡ k → j ≡ l → ⊥)
-here? i k j l = by (same? i k) (same? j l)
-  where
-    by : (i ≡ k) ⊎ (i ≢ k) → (j ≡ l) ⊎ (j ≢ l) → ((i ≡ k) × (j ≡ l)) ⊎ (i ≡ k → j ≡ l → ⊥)
-    by (inl p) (inl q) = inl (p, q)
-    by (inl p) (inr q) = inr (λ _ h. q h)
-    by (inr p) q = inr (λ h _. p h)
-
 pub or-mono : (a a′ b b′ : Option ℕ) (o : ℕ) → a′ ≡ a → ((e : ℕ) → b ≡ some e → b′ ≡ some e) → orElse a b ≡ some o → orElse a′ b′ ≡ some o
 or-mono (some x) a′ b b′ o p h q = ap (λ (c : Option ℕ). orElse c b′) p ∙ q
 or-mono none a′ b b′ o p h q = ap (λ (c : Option ℕ). orElse c b′) p ∙ h o q
+
+-- lists of results
+pub take-in : (n : ℕ) (l : List ℕ) (r : ℕ) → In r (take n l) → In r l
+take-in zero l r i = absurd i
+take-in (suc n) [] r i = absurd i
+take-in (suc n) (x ∷ l) r (inl e) = inl e
+take-in (suc n) (x ∷ l) r (inr i) = inr (take-in n l r i)
+
+pub drop-in : (n : ℕ) (l : List ℕ) (r : ℕ) → In r (drop n l) → In r l
+drop-in zero l r i = i
+drop-in (suc n) [] r i = absurd i
+drop-in (suc n) (x ∷ l) r i = inr (drop-in n l r i)
+
+aux-in : (l a : List ℕ) (r : ℕ) → In r (reverseAux l a) → In r l ⊎ In r a
+aux-in [] a r i = inr i
+aux-in (x ∷ l) a r i = on (aux-in l (x ∷ a) r i)
+  where
+    on : In r l ⊎ In r (x ∷ a) → In r (x ∷ l) ⊎ In r a
+    on (inl j) = inl (inr j)
+    on (inr (inl e)) = inl (inl e)
+    on (inr (inr j)) = inr j
+
+pub reverse-in : (l : List ℕ) (r : ℕ) → In r (reverse l) → In r l
+reverse-in l r i = on (aux-in l [] r i)
+  where
+    on : In r l ⊎ In r [] → In r l
+    on (inl j) = j
+    on (inr j) = absurd j
+
+pub take-length : (n m : ℕ) (l : List ℕ) → length l ≡ n + m → length (take n l) ≡ n
+take-length zero m l e = refl
+take-length (suc n) m [] e = absurd (omega (arith, e))
+take-length (suc n) m (x ∷ l) e = ap suc (take-length n m l (omega (arith, e)))
+
+pub drop-length : (n m : ℕ) (l : List ℕ) → length l ≡ n + m → length (drop n l) ≡ m
+drop-length zero m l e = omega (arith, e)
+drop-length (suc n) m [] e = absurd (omega (arith, e))
+drop-length (suc n) m (x ∷ l) e = drop-length n m l (omega (arith, e))
+
+-- one more
+pub in-cons : {P : ℕ → Type 0} (x : ℕ) (l : List ℕ) → P x → ((r : ℕ) → In r l → P r) → (r : ℕ) → In r (x ∷ l) → P r
+in-cons {P} x l p h r (inl e) = subst P (sym e) p
+in-cons {P} x l p h r (inr i) = h r i
+
+pub map-in : (f : ℕ → ℕ) (l : List ℕ) (y : ℕ) → In y (map f l) → (r : ℕ) × In r l × (y ≡ f r)
+map-in f [] y i = absurd i
+map-in f (z ∷ l) y (inl e) = (z, inl refl, e)
+map-in f (z ∷ l) y (inr i) = let k = map-in f l y i in (k .0, inr (k .1), k .2)
+
+pub in-map : (f : ℕ → ℕ) (l : List ℕ) (r : ℕ) → In r l → In (f r) (map f l)
+in-map f [] r i = absurd i
+in-map f (z ∷ l) r (inl e) = inl (ap f e)
+in-map f (z ∷ l) r (inr i) = inr (in-map f l r i)
+
+-- an entry is dropped or left
+pub left-of : (x : ℕ) (l : List ℕ) (y : ℕ) → In y l → (y ≡ x) ⊎ In y (without x l)
+left-of x (z ∷ l) y (inl e) = elim (same? z x) [ inl q ↦ inl (e ∙ q) | inr n ↦ inr (rw (eqb-diff z x n) (inl e)) ]
+left-of x (z ∷ l) y (inr i) = ⊎-map (λ e. e) (more (eqb z x)) (left-of x l y i)
+  where
+    more : (c : Bool) → In y (without x l) → In y (cond c (without x l) (z ∷ without x l))
+    more true j = j
+    more false j = inr j

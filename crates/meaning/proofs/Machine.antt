@@ -1,23 +1,21 @@
 -- The stack machine does what the recursive reading does, on every form. Assumes nothing.
-use Prim.Native.Nat.{ℕ, zero, suc, _+_, _<_, _≤_}
+use Prim.Native.Nat.{ℕ, zero, suc, _<_}
 use mathlib.Core.Path.{_≡_, refl, sym, ap, _∙_, subst}
-use mathlib.Core.Logic.{_≢_, _⊎_, inl, inr}
-use mathlib.Core.Bool.{Bool, true, false, cond}
+use mathlib.Core.Logic.{inl, inr}
+use mathlib.Core.Bool.{Bool, true, false}
 use mathlib.Core.Option.{Option, none, some}
-use mathlib.Core.List.{List, [], _∷_, _++_, append-assoc, append-nil, map, reverse, reverseAux, reverseAux-eq, reverse-reverse}
-use lib.Dec.{eqb}
+use mathlib.Core.List.{List, [], _∷_, _++_, map, reverse, reverseAux, reverseAux-eq, reverse-reverse}
 use lib.ListN.{length, take, drop, length-reverse}
 use lib.Seq.{take-at, drop-at}
 use native.Mathlib.Omega.{arith}
 use native.Mathlib.Nat.{le-trans, not-suc-le-zero}
-use Rattle.definition.specs.Base.{put, put₂, orElse, before, every, without}
-use Rattle.definition.specs.Form.{Graph, Form, def, with-args}
-use Rattle.definition.specs.Read.{Got, mark, mark-one, new-param, wait, walk, settle, settle-left, alias, feed-all, resolve, read-all, fill, begin, read-past, read-on, read}
-use Rattle.meaning.specs.Machine.{Task, look, finish, Conf, conf, schedule, open-param, find, visit, settle-top, turn, turns}
+use Rattle.definition.specs.Base.{before, without}
+use Rattle.definition.specs.Form.{Graph, Form, def}
+use Rattle.definition.specs.Read.{Got, mark, new-param, wait, walk, settle, resolve, read-all, fill, begin, read-past, read-on, read}
+use Rattle.meaning.specs.Machine.{Task, look, finish, Conf, conf, schedule, open-param, find, visit, settle-top, turn}
 use Rattle.meaning.specs.Path.{In}
-use Rattle.meaning.proofs.Maps.{same?}
-use Rattle.meaning.proofs.Lists.{put₂-at, put₂-other, here?}
-use Rattle.meaning.proofs.Reading.{Sound, is-none, lacks, Walked, walked}
+use Rattle.meaning.proofs.Reading.{Sound, walked}
+use Rattle.meaning.proofs.Lacking.{lacks, Somes, fewer, Has, settle-somes, mark-somes, param-somes, less, param-has}
 
 -- some number of turns leads from one configuration to another
 pub data Goes (g : Graph) (v : ℕ) : Conf → Conf → Type 0 where
@@ -28,54 +26,7 @@ pub goes-trans : {g : Graph} {v : ℕ} {c d e : Conf} → Goes g v c d → Goes 
 goes-trans there q = q
 goes-trans (on p) q = on (goes-trans p q)
 
--- a definition is recorded, and stays so
-abbrev pub Has : Option ℕ → Type 0
-Has d = (o : ℕ) × (d ≡ some o)
-
-pub or-has : (a b b′ : Option ℕ) → (Has b → Has b′) → Has (orElse a b) → Has (orElse a b′)
-or-has (some x) b b′ f h = (x, refl)
-or-has none b b′ f h = f h
-
-abbrev pub Somes : Form → Form → Type 0
-Somes s s′ = (w b : ℕ) → Has (def s w b) → Has (def s′ w b)
-
-pub mark-somes : (v x : ℕ) (bs : List ℕ) (s : Form) → Somes s (mark v x bs s)
-mark-somes v x [] s w b h = h
-mark-somes v x (c ∷ bs) s w b h = one (mark v x bs s) (mark-somes v x bs s w b h)
-  where
-    one : (t : Form) → Has (def t w b) → Has (def (mark-one v x c t) w b)
-    one t k = or-has (t .own w b) (t .entry w b) (put₂ v c (some x) (t .entry) w b) (λ e. by e (here? w v b c)) k
-      where
-        by : Has (t .entry w b) → ((w ≡ v) × (b ≡ c)) ⊎ (w ≡ v → b ≡ c → ⊥) → Has (put₂ v c (some x) (t .entry) w b)
-        by e (inl q) = (x, put₂-at v c (some x) (t .entry) w b (q .0) (q .1))
-        by e (inr n) = (e .0, put₂-other v c (some x) (t .entry) w b n ∙ e .1)
-
-pub settle-somes : (g : Graph) (b x : ℕ) (rs : List ℕ) (s : Form) (left : List ℕ) → Somes s (settle-left g b x rs s left .1)
-settle-somes g b x rs s [] w c h = h
-settle-somes g b x rs s (y ∷ ys) w c h = by (every (eqb y) ys)
-  where
-    by : (z : Bool) → Has (def (cond {A = Got} z (y, alias b x y s) (x, with-args s (feed-all g b (g .preds b) rs (s .args))) .1) w c)
-    by true = h
-    by false = h
-
-none-has : (a b : Option ℕ) → (Has a → Has b) → is-none b ≤ is-none a
-none-has none none h = omega arith
-none-has none (some y) h = omega arith
-none-has (some x) b h = let k = h (x, refl) in subst (λ (c : Option ℕ). is-none c ≤ 0) (sym (k .1)) (omega arith)
-
-pub fewer : (v : ℕ) (s s′ : Form) → Somes s s′ → (n : ℕ) → lacks v s′ n ≤ lacks v s n
-fewer v s s′ h zero = omega arith
-fewer v s s′ h (suc n) = omega (arith, none-has (def s v n) (def s′ v n) (h v n), fewer v s s′ h n)
-
-pub less : (v : ℕ) (s s′ : Form) → Somes s s′ → (c : ℕ) → def s v c ≡ none → Has (def s′ v c) → (n : ℕ) → c < n → lacks v s′ n < lacks v s n
-less v s s′ h c p q zero l = absurd (not-suc-le-zero l)
-less v s s′ h c p q (suc n) l = by (same? n c) (less v s s′ h c p q n)
-  where
-    by : (n ≡ c) ⊎ (n ≢ c) → (c < n → lacks v s′ n < lacks v s n) → lacks v s′ (suc n) < lacks v s (suc n)
-    by (inl e) below = omega (arith, ap is-none (ap (def s v) e ∙ p), ap is-none (ap (def s′ v) e ∙ q .1), fewer v s s′ h n)
-    by (inr d) below = omega (arith, none-has (def s v n) (def s′ v n) (h v n), below (omega arith))
-
-module _ (g : Graph) (G : Sound g) (v : ℕ) (lv : v < length (g .types)) where
+module _ (g : Graph) (v : ℕ) where
   -- rec leaves definitions recorded
   all-somes : (rec : ℕ → Form → Got) → ((b : ℕ) (s : Form) → Somes s (rec b s .1)) → (ps : List ℕ) (s : Form) → Somes s (read-all rec ps s .1)
   all-somes rec R [] s w b h = h
@@ -86,16 +37,13 @@ module _ (g : Graph) (G : Sound g) (v : ℕ) (lv : v < length (g .types)) where
       let q = read-all rec (g .preds b) s in
       settle-somes g b x (q .0) (q .1) (without x (map (resolve (q .1)) (q .0))) w c (all-somes rec R (g .preds b) s w c h)
 
-  pub param-somes : (c : ℕ) (s : Form) → Somes s (new-param g v c s)
-  param-somes c s w b h = mark-somes v (s .next) (c ∷ []) s w b h
-
   past-somes : (rec : ℕ → Form → Got) → ((b : ℕ) (s : Form) → Somes s (rec b s .1)) → (s : Form) (over : List ℕ) (c : ℕ) (m : Option ℕ) → Somes s (read-past rec g v s over c m .1)
   past-somes rec R s over c (some x) w b h = mark-somes v x over s w b h
   past-somes rec R s over c none w b h = by (g .sealed c)
     where
       by : (z : Bool) → Has (def (begin rec g v c (s .next) (before c over) (new-param g v c s) z .1) w b)
-      by true = fill-somes rec R c (s .next) (mark v (s .next) (before c over) (new-param g v c s)) w b (mark-somes v (s .next) (before c over) (new-param g v c s) w b (param-somes c s w b h))
-      by false = mark-somes v (s .next) (before c over) (wait v c (s .next) (new-param g v c s)) w b (param-somes c s w b h)
+      by true = fill-somes rec R c (s .next) (mark v (s .next) (before c over) (new-param g v c s)) w b (mark-somes v (s .next) (before c over) (new-param g v c s) w b (param-somes g v c s w b h))
+      by false = mark-somes v (s .next) (before c over) (wait v c (s .next) (new-param g v c s)) w b (param-somes g v c s w b h)
 
   read-somes : (n b : ℕ) (s : Form) → Somes s (read n g v b s .1)
   read-somes zero b s w c h = h
@@ -129,15 +77,16 @@ module _ (g : Graph) (G : Sound g) (v : ℕ) (lv : v < length (g .types)) where
       let d : drop n (reverseAux qs rs) ≡ rs = ap (drop n) (reverseAux-eq qs rs) ∙ drop-at (reverse qs) rs n len in
       ap (λ (l : List ℕ). conf ts (settle g b x l s .0 ∷ drop n (reverseAux qs rs)) (settle g b x l s .1)) t ∙ ap (λ (l : List ℕ). conf ts (settle g b x qs s .0 ∷ l) (settle g b x qs s .1)) d
 
-  pub does : (n : ℕ) → Does n (read n g v)
+module _ (g : Graph) (G : Sound g) (v : ℕ) where
+  pub does : (n : ℕ) → Does g v n (read n g v)
   does zero b s lb l ts rs = absurd (not-suc-le-zero l)
   does (suc n) b s lb l ts rs = on (by (def s v b) refl (does n))
     where
-      by : (d : Option ℕ) → def s v b ≡ d → Does n (read n g v) → Goes g v (visit g v b ts rs s d) (conf ts (read-on (read n g v) g v b s d .0 ∷ rs) (read-on (read n g v) g v b s d .1))
+      by : (d : Option ℕ) → def s v b ≡ d → Does g v n (read n g v) → Goes g v (visit g v b ts rs s d) (conf ts (read-on (read n g v) g v b s d .0 ∷ rs) (read-on (read n g v) g v b s d .1))
       by (some x) e D = there
       by none e D =
           let w = walk (suc (g .blocks)) g s v [] b in
-          let y = walked g G v lv (suc (g .blocks)) s [] b lb e in
+          let y = walked g G v (suc (g .blocks)) s [] b lb e in
           past (w .passed) (w .end) (w .met) (y .low) (y .unmet)
         where
           past : (over : List ℕ) (c : ℕ) (m : Option ℕ) → c < g .blocks → (m ≡ none → def s v c ≡ none) → Goes g v (find g v ts rs s over c m) (conf ts (read-past (read n g v) g v s over c m .0 ∷ rs) (read-past (read n g v) g v s over c m .1))
@@ -151,14 +100,10 @@ module _ (g : Graph) (G : Sound g) (v : ℕ) (lv : v < length (g .types)) where
               s₂ = mark v x (before c over) (new-param g v c s)
 
               up : Somes s s₂
-              up w′ b′ k = mark-somes v x (before c over) (new-param g v c s) w′ b′ (param-somes c s w′ b′ k)
+              up w′ b′ k = mark-somes v x (before c over) (new-param g v c s) w′ b′ (param-somes g v c s w′ b′ k)
 
               at-c : Has (def s₂ v c)
-              at-c = mark-somes v x (before c over) (new-param g v c s) v c (or-has (s .own v c) (some x) (put₂ v c (some x) (s .entry) v c) (λ _. (x, put₂-at v c (some x) (s .entry) v c refl refl)) (or-some (s .own v c)))
-                where
-                  or-some : (a : Option ℕ) → Has (orElse a (some x))
-                  or-some (some y) = (y, refl)
-                  or-some none = (x, refl)
+              at-c = mark-somes v x (before c over) (new-param g v c s) v c (param-has g v c s)
 
               fits : lacks v s₂ (g .blocks) < n
               fits = omega (arith, l, less v s s₂ up c (un refl) at-c (g .blocks) lc)
@@ -169,13 +114,13 @@ module _ (g : Graph) (G : Sound g) (v : ℕ) (lv : v < length (g .types)) where
               seal : (z : Bool) → Goes g v (open-param g v c x (before c over) ts rs (new-param g v c s) z)
                   (conf ts (begin (read n g v) g v c x (before c over) (new-param g v c s) z .0 ∷ rs) (begin (read n g v) g v c x (before c over) (new-param g v c s) z .1))
               seal false = there
-              seal true = goes-trans (all-does n (read n g v) D (read-somes n) (g .preds c) (λ p i. G .range c p i) s₂ fits (finish x c ∷ ts) rs)
-                  (on (subst (λ (k : Conf). Goes g v k (conf ts (fill (read n g v) g c x s₂ .0 ∷ rs) (fill (read n g v) g c x s₂ .1))) (sym (top x c ts (q .0) rs (q .1) (all-length (read n g v) (g .preds c) s₂))) there))
+              seal true = goes-trans (all-does g v n (read n g v) D (read-somes g v n) (g .preds c) (λ p i. G .range c p i) s₂ fits (finish x c ∷ ts) rs)
+                  (on (subst (λ (k : Conf). Goes g v k (conf ts (fill (read n g v) g c x s₂ .0 ∷ rs) (fill (read n g v) g c x s₂ .1))) (sym (top g v x c ts (q .0) rs (q .1) (all-length g v (read n g v) (g .preds c) s₂))) there))
 
   -- settling a parameter that waited
   pub fills : (n b x : ℕ) (s : Form) → lacks v s (g .blocks) < n → (ts : List Task) (rs : List ℕ)
       → Goes g v (conf (schedule g x b ts) rs s) (conf ts (fill (read n g v) g b x s .0 ∷ rs) (fill (read n g v) g b x s .1))
   fills n b x s l ts rs =
       let q = read-all (read n g v) (g .preds b) s in
-      goes-trans (all-does n (read n g v) (does n) (read-somes n) (g .preds b) (λ p i. G .range b p i) s l (finish x b ∷ ts) rs)
-      (on (subst (λ (k : Conf). Goes g v k (conf ts (fill (read n g v) g b x s .0 ∷ rs) (fill (read n g v) g b x s .1))) (sym (top x b ts (q .0) rs (q .1) (all-length (read n g v) (g .preds b) s))) there))
+      goes-trans (all-does g v n (read n g v) (does n) (read-somes g v n) (g .preds b) (λ p i. G .range b p i) s l (finish x b ∷ ts) rs)
+      (on (subst (λ (k : Conf). Goes g v k (conf ts (fill (read n g v) g b x s .0 ∷ rs) (fill (read n g v) g b x s .1))) (sym (top g v x b ts (q .0) rs (q .1) (all-length g v (read n g v) (g .preds b) s))) there))

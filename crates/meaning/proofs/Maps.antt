@@ -1,15 +1,14 @@
--- Tests and maps. Assumes nothing.
-use Prim.Native.Nat.{ℕ, zero, suc, _+_, _<_}
-use mathlib.Core.Path.{_≡_, refl, sym, ap, _∙_, subst}
+-- Tests, options and maps. Assumes nothing.
+use Prim.Native.Nat.{ℕ, _<_, _≤_}
+use mathlib.Core.Option.{Option·some-injective, Option, some, none, Option·none-ne-some}
+use mathlib.Core.Path.{fun-ext, _≡_, refl, sym, ap, _∙_, subst}
 use mathlib.Core.Logic.{_≢_, _⊎_, inl, inr}
-use mathlib.Core.Bool.{Bool, true, false, cond}
-use mathlib.Core.Option.{Option, none, some}
-use mathlib.Core.List.{List, [], _∷_, _++_}
-use lib.Dec.{eqb, T, eqb→eq, eqb-refl}
-use Rattle.definition.specs.Base.{put, put₂}
-use Rattle.meaning.specs.Path.{In}
+use mathlib.Core.Bool.{Bool, true, false, not, _||_, _&&_}
+use lib.Dec.{ltb→lt, eqb, T, eqb→eq, eqb-refl, ltb, leb, nleb→lt, nltb→le}
+use native.Mathlib.Omega.{arith}
+use Rattle.definition.specs.Base.{put, put₂, orElse}
 
-pub T-true : (b : Bool) → T b → b ≡ true
+T-true : (b : Bool) → T b → b ≡ true
 T-true true h = refl
 T-true false h = absurd h
 
@@ -39,6 +38,34 @@ same? j k = at (eqb j k) refl
     at true e = inl (eqb-eq j k e)
     at false e = inr (no-match e)
 
+pub false-true : {b : Bool} → b ≡ false → b ≡ true → ⊥
+false-true p q = let z : _≡_ {A = ℕ} 0 1 = cc in omega arith
+
+pub bool? : (b : Bool) → (b ≡ true) ⊎ (b ≡ false)
+bool? true = inl refl
+bool? false = inr refl
+
+pub and-both : (a b : Bool) → a && b ≡ true → (a ≡ true) × (b ≡ true)
+and-both true b e = (refl, e)
+and-both false b e = absurd (false-true refl e)
+
+pub ltb-yes : (m n : ℕ) → ltb m n ≡ true → m < n
+ltb-yes m n e = ltb→lt m n (true-T (ltb m n) e)
+
+pub ltb-no : (m n : ℕ) → ltb m n ≡ false → n ≤ m
+ltb-no m n e = nltb→le m n (subst (λ (b : Bool). T (not b)) (sym e) tt)
+
+pub leb-no : (m n : ℕ) → leb m n ≡ false → n < m
+leb-no m n e = nleb→lt m n (subst (λ (b : Bool). T (not b)) (sym e) tt)
+
+pub or-no : (a b : Bool) → a || b ≡ false → (a ≡ false) × (b ≡ false)
+or-no true b e = absurd (false-true e refl)
+or-no false b e = (refl, e)
+
+pub not-no : (a : Bool) → not a ≡ false → a ≡ true
+not-no true e = refl
+not-no false e = absurd (false-true e refl)
+
 module _ {ℓ} {A : Type ℓ} where
   pub put-same : (k : ℕ) (a : A) (f : ℕ → A) → put k a f k ≡ a
   put-same k a f = rw (eqb-same k)
@@ -49,5 +76,47 @@ module _ {ℓ} {A : Type ℓ} where
   pub put-at : (k : ℕ) (a : A) (f : ℕ → A) (j : ℕ) → j ≡ k → put k a f j ≡ a
   put-at k a f j q = ap (λ (i : ℕ). put k a f i) q ∙ put-same k a f
 
+  pub put-id : (k : ℕ) (f : ℕ → A) → put k (f k) f ≡ f
+  put-id k f = fun-ext (λ j. by j (same? j k))
+    where
+      by : (j : ℕ) → (j ≡ k) ⊎ (j ≢ k) → put k (f k) f j ≡ f j
+      by j (inl q) = put-at k (f k) f j q ∙ ap f (sym q)
+      by j (inr n) = put-other k (f k) f j n
+
+  pub put-put : (k : ℕ) (a b : A) (f : ℕ → A) → put k a (put k b f) ≡ put k a f
+  put-put k a b f = fun-ext (λ j. by j (same? j k))
+    where
+      by : (j : ℕ) → (j ≡ k) ⊎ (j ≢ k) → put k a (put k b f) j ≡ put k a f j
+      by j (inl q) = put-at k a (put k b f) j q ∙ sym (put-at k a f j q)
+      by j (inr n) = put-other k a (put k b f) j n ∙ put-other k b f j n ∙ sym (put-other k a f j n)
+
+-- maps of two keys
+module _ {A : Type 0} where
+  pub put₂-at : (k l : ℕ) (a : A) (f : ℕ → ℕ → A) (i j : ℕ) → i ≡ k → j ≡ l → put₂ k l a f i j ≡ a
+  put₂-at k l a f i j p q = ap (λ (h : ℕ → A). h j) (put-at k (put l a (f k)) f i p) ∙ put-at l a (f k) j q
+
+  pub put₂-other : (k l : ℕ) (a : A) (f : ℕ → ℕ → A) (i j : ℕ) → (i ≡ k → j ≡ l → ⊥) → put₂ k l a f i j ≡ f i j
+  put₂-other k l a f i j n = by (same? i k)
+    where
+      by : (i ≡ k) ⊎ (i ≢ k) → put₂ k l a f i j ≡ f i j
+      by (inl p) = ap (λ (h : ℕ → A). h j) (put-at k (put l a (f k)) f i p) ∙ put-other l a (f k) j (n p) ∙ ap (λ (h : ℕ). f h j) (sym p)
+      by (inr p) = ap (λ (h : ℕ → A). h j) (put-other k (put l a (f k)) f i p)
+
+-- is it this pair of keys?
+pub here? : (i k j l : ℕ) → ((i ≡ k) × (j ≡ l)) ⊎ (i ≡ k → j ≡ l → ⊥)
+here? i k j l = by (same? i k) (same? j l)
+  where
+    by : (i ≡ k) ⊎ (i ≢ k) → (j ≡ l) ⊎ (j ≢ l) → ((i ≡ k) × (j ≡ l)) ⊎ (i ≡ k → j ≡ l → ⊥)
+    by (inl p) (inl q) = inl (p, q)
+    by (inl p) (inr q) = inr (λ _ h. q h)
+    by (inr p) q = inr (λ h _. p h)
+
 pub some-inj : {a b : ℕ} → _≡_ {A = Option ℕ} (some a) (some b) → a ≡ b
-some-inj e = mathlib.Core.Option.Option·some-injective _ _ e
+some-inj e = Option·some-injective _ _ e
+
+pub some-none : {o : Option ℕ} {a : ℕ} → o ≡ some a → o ≡ none → ⊥
+some-none {o} {a} p q = Option·none-ne-some a (sym q ∙ p)
+
+pub or-none : (a b : Option ℕ) → orElse a b ≡ none → (a ≡ none) × (b ≡ none)
+or-none (some x) b e = absurd (some-none refl e)
+or-none none b e = (refl, e)

@@ -1,58 +1,71 @@
--- What every number stored is below, of every form, and that each change of a form keeps it. Assumes nothing.
-use Prim.Native.Nat.{ℕ, zero, suc, _+_, _<_, _≤_}
-use mathlib.Core.Path.{_≡_, refl, sym, ap, _∙_, subst}
-use mathlib.Core.Logic.{_≢_, _⊎_, inl, inr}
+-- What every number stored is below, of every form, and that each change of a form keeps it: what is stored was there before, or is new and counted.
+-- Assumes nothing.
+use Prim.Native.Nat.{ℕ, zero, suc, _<_, _≤_}
+use mathlib.Core.Path.{_≡_, refl, sym, ap, _∙_}
+use mathlib.Core.Logic.{_⊎_, inl, inr, ⊎-map}
 use mathlib.Core.Bool.{Bool, true, false, cond, _&&_}
-use mathlib.Core.Option.{Option, none, some, Option·none-ne-some}
+use mathlib.Core.Option.{Option, none, some}
 use mathlib.Core.List.{List, [], _∷_, _++_, map}
 use lib.Dec.{eqb}
-use lib.ListN.{length, getD}
+use lib.ListN.{length}
 use native.Mathlib.Omega.{arith}
 use native.Mathlib.Nat.{le-trans}
-use Rattle.definition.specs.Base.{put, put₂, without, orElse, every, has}
-use Rattle.definition.specs.Form.{Graph, Form, Info, Sort, made, param, nought, def, with-args, with-entry, with-placed}
-use Rattle.definition.specs.Read.{Got, resolve, follow, type-of, mark-one, mark, make, alias, place-block, log-zero, is-dest, feed, feed-all, settle-left, settle}
-use Rattle.meaning.specs.Causes.{Caused}
+use Rattle.entity.specs.Limits.{limits}
+use Rattle.entity.specs.Types.{type-count}
+use Rattle.definition.specs.Base.{put, put₂, orElse, every, has, without}
+use Rattle.definition.specs.Form.{Graph, Form, Info, param, nought, def, with-args, with-entry, made, with-makes, Sort}
+use Rattle.definition.specs.Read.{Got, resolve, follow, type-of, mark-one, mark, alias, is-dest, feed, feed-all, settle-left, settle, place-block, make, write}
 use Rattle.meaning.specs.Path.{In}
-use Rattle.meaning.proofs.Maps.{same?, put-same, put-other, put-at, some-inj}
-use Rattle.meaning.proofs.Lists.{Nodup, nodup-snoc, in-left, in-right, in-cases, without-in, put₂-at, put₂-other, here?}
-use Rattle.meaning.proofs.Inv.{Grow, Param, in-one, nought-param}
-use Rattle.meaning.proofs.Keeping.{false-true}
-use Rattle.meaning.proofs.Settle.{map-in}
-use Rattle.meaning.proofs.Whole.{has-in}
-use Rattle.meaning.proofs.Causing.{new-caused, alias-keeps, alias-caused}
+use Rattle.meaning.specs.Stored.{Nodup}
+use Rattle.meaning.proofs.Causing.{Caused, new-caused, entered-caused, wider-caused, aliased-caused}
+use Rattle.meaning.proofs.Growing.{grown}
+use Rattle.meaning.proofs.Maps.{same?, put-same, put-other, put-at, some-inj, put₂-at, put₂-other, here?, false-true}
+use Rattle.meaning.proofs.Lists.{nodup-snoc, in-cases, without-in, has-in, in-one, map-in}
+use Rattle.meaning.proofs.Inv.{Grow, Param, nought-param}
 
 -- the graph
 pub record Bounds (g : Graph) : Type 0 where
-  pub few : g .blocks ≤ 64
-  pub vars : length (g .types) ≤ 64
-  pub typed : (w : ℕ) → w < length (g .types) → type-of g w < 6
-  pub eight : (p : ℕ) → length (g .dests p) ≤ 8
+  pub few : g .blocks ≤ limits .blocks
+  pub vars : length (g .types) ≤ limits .variables
+  pub typed : (w : ℕ) → w < length (g .types) → type-of g w < type-count
+  pub dests : (p : ℕ) → length (g .dests p) ≤ limits .dests
   pub aims : (p b : ℕ) → In b (g .dests p) → b < g .blocks
   pub from : (p b : ℕ) → In b (g .dests p) → g .branch p ≡ true
   pub branches : (p : ℕ) → g .branch p ≡ true → p < g .blocks
   pub shut : (b : ℕ) → g .sealed b ≡ true → b < g .blocks
 
+-- values
+pub record Valued (blocks : ℕ) (info : ℕ → Info) (target : ℕ → ℕ) (next : ℕ) : Type 0 where
+  pub closed : (x : ℕ) → x < next → target x < next
+  pub homes : (x : ℕ) → x < next → info x .home < blocks
+  pub types : (x : ℕ) → x < next → info x .type < type-count
+
+-- where values are recorded
+pub record Recorded (variables blocks : ℕ) (entry own : ℕ → ℕ → Option ℕ) (args : ℕ → ℕ → List ℕ) (next : ℕ) : Type 0 where
+  pub entries : (w b e : ℕ) → entry w b ≡ some e → e < next
+  pub owns : (w b e : ℕ) → own w b ≡ some e → (w < variables) × (b < blocks) × (e < next)
+  pub passed : (p i a : ℕ) → In a (args p i) → a < next
+
+-- the zero log and the blocks placed
+pub record Logs (call blocks : ℕ) (zeros : List (ℕ × ℕ)) (placed : List ℕ) : Type 0 where
+  pub noted : (z : ℕ × ℕ) → In z zeros → (z .0 ≤ call) × (z .1 < blocks)
+  pub once : Nodup placed
+  pub within : (b : ℕ) → In b placed → b < blocks
+
 -- the form
 pub record Ranged (g : Graph) (s : Form) : Type 0 where
-  pub closed : (x : ℕ) → x < s .next → s .target x < s .next
-  pub homes : (x : ℕ) → x < s .next → s .info x .home < g .blocks
-  pub types : (x : ℕ) → x < s .next → s .info x .type < 6
-  pub entries : (w b e : ℕ) → s .entry w b ≡ some e → e < s .next
-  pub owns : (w b e : ℕ) → s .own w b ≡ some e → (w < length (g .types)) × (b < g .blocks) × (e < s .next)
-  pub args : (p i a : ℕ) → In a (s .args p i) → a < s .next
-  pub still : (b : ℕ) → g .sealed b ≡ true → s .pending b ≡ []
+  pub valued : Valued (g .blocks) (s .info) (s .target) (s .next)
+  pub recorded : Recorded (length (g .types)) (g .blocks) (s .entry) (s .own) (s .args) (s .next)
+  pub logs : Logs (g .call) (g .blocks) (s .zeros) (s .placed)
   pub caused : Caused g s
-  pub zeros : (z : ℕ × ℕ) → In z (s .zeros) → (z .0 ≤ g .call) × (z .1 < g .blocks)
-  pub once : Nodup (s .placed)
-  pub placed : (b : ℕ) → In b (s .placed) → b < g .blocks
+  pub still : (b : ℕ) → g .sealed b ≡ true → s .pending b ≡ []
 
 pub def-below : (g : Graph) (s : Form) → Ranged g s → (w b e : ℕ) → def s w b ≡ some e → e < s .next
 def-below g s h w b e q = by (s .own w b) refl q
   where
     by : (o : Option ℕ) → s .own w b ≡ o → orElse o (s .entry w b) ≡ some e → e < s .next
-    by (some y) k r = h .owns w b e (k ∙ r) .2
-    by none k r = h .entries w b e r
+    by (some y) k r = h .recorded .owns w b e (k ∙ r) .2
+    by none k r = h .recorded .entries w b e r
 
 pub follow-below : (t : ℕ → ℕ) (m : ℕ) → ((x : ℕ) → x < m → t x < m) → (n z : ℕ) → z < m → follow n t z < m
 follow-below t m h zero z l = l
@@ -62,159 +75,183 @@ follow-below t m h (suc n) z l = by (eqb (t z) z) (follow-below t m h n (t z) (h
     by true k = l
     by false k = k
 
--- the blocks placed
-pub placed-once : (b : ℕ) (l : List ℕ) → Nodup l → Nodup (cond (has b l) l (l ++ b ∷ []))
-placed-once b l n = by (has b l) refl
-  where
-    by : (c : Bool) → has b l ≡ c → Nodup (cond c l (l ++ b ∷ []))
-    by true e = n
-    by false e = nodup-snoc l b n (λ i. false-true e (has-in b l i))
-
-pub placed-in : (b n : ℕ) (l : List ℕ) → b < n → ((c : ℕ) → In c l → c < n) → (c : ℕ) → In c (cond (has b l) l (l ++ b ∷ [])) → c < n
-placed-in b n l lb h c i = by (has b l) i
-  where
-    snoc : In c l ⊎ In c (b ∷ []) → c < n
-    snoc (inl k) = h c k
-    snoc (inr k) = subst (λ (j : ℕ). j < n) (sym (in-one c b k)) lb
-
-    by : (z : Bool) → In c (cond z l (l ++ b ∷ [])) → c < n
-    by true k = h c k
-    by false k = snoc (in-cases c l (b ∷ []) k)
-
 -- arguments come from the results
-feed-in : (p b r : ℕ) (ds : List ℕ) (us : ℕ → ℕ → List ℕ) (q i a : ℕ) → In a (feed p b r ds us q i) → In a (us q i) ⊎ (a ≡ r)
-feed-in p b r ds us q i a k = by (eqb q p && is-dest ds i b) k
-  where
-    on : In a (us q i) ⊎ In a (r ∷ []) → In a (us q i) ⊎ (a ≡ r)
-    on (inl j) = inl j
-    on (inr j) = inr (in-one a r j)
-
-    by : (c : Bool) → In a (cond c (us q i ++ r ∷ []) (us q i)) → In a (us q i) ⊎ (a ≡ r)
-    by true j = on (in-cases a (us q i) (r ∷ []) j)
-    by false j = inl j
-
-pub feeds-in : (g : Graph) (b : ℕ) (ps rs : List ℕ) (us : ℕ → ℕ → List ℕ) (q i a : ℕ) → In a (feed-all g b ps rs us q i) → In a (us q i) ⊎ In a rs
+feeds-in : (g : Graph) (b : ℕ) (ps rs : List ℕ) (us : ℕ → ℕ → List ℕ) (q i a : ℕ) → In a (feed-all g b ps rs us q i) → In a (us q i) ⊎ In a rs
 feeds-in g b [] rs us q i a k = inl k
 feeds-in g b (p ∷ ps) [] us q i a k = inl k
-feeds-in g b (p ∷ ps) (r ∷ rs) us q i a k = on (feeds-in g b ps rs (feed p b r (g .dests p) us) q i a k)
+feeds-in g b (p ∷ ps) (r ∷ rs) us q i a k = elim (feeds-in g b ps rs (feed p b r (g .dests p) us) q i a k) [
+  | inl j ↦ ⊎-map (λ u. u) inl (one (eqb q p && is-dest (g .dests p) i b) j)
+  | inr j ↦ inr (inr j)
+]
   where
-    on : In a (feed p b r (g .dests p) us q i) ⊎ In a rs → In a (us q i) ⊎ In a (r ∷ rs)
-    on (inl j) = to (feed-in p b r (g .dests p) us q i a j)
-      where
-        to : In a (us q i) ⊎ (a ≡ r) → In a (us q i) ⊎ In a (r ∷ rs)
-        to (inl u) = inl u
-        to (inr u) = inr (inl u)
-    on (inr j) = inr (inr j)
+    one : (c : Bool) → In a (cond c (us q i ++ r ∷ []) (us q i)) → In a (us q i) ⊎ (a ≡ r)
+    one true j = ⊎-map (λ u. u) (in-one a r) (in-cases a (us q i) (r ∷ []) j)
+    one false j = inl j
 
 -- marking changes entries alone
 pub mark-is : (v x : ℕ) (bs : List ℕ) (s : Form) → mark v x bs s ≡ with-entry s (mark v x bs s .entry)
 mark-is v x [] s = refl
 mark-is v x (b ∷ bs) s = ap (mark-one v x b) (mark-is v x bs s)
 
-pub mark-only : (v x : ℕ) (bs : List ℕ) (s : Form) (w b e : ℕ) → mark v x bs s .entry w b ≡ some e → (s .entry w b ≡ some e) ⊎ (e ≡ x)
+mark-only : (v x : ℕ) (bs : List ℕ) (s : Form) (w b e : ℕ) → mark v x bs s .entry w b ≡ some e → (s .entry w b ≡ some e) ⊎ (e ≡ x)
 mark-only v x [] s w b e q = inl q
-mark-only v x (c ∷ bs) s w b e q = by (here? w v b c) (mark-only v x bs s w b e)
+mark-only v x (c ∷ bs) s w b e q = elim (here? w v b c) [
+  | inl k ↦ inr (some-inj (sym q ∙ put₂-at v c (some x) (mark v x bs s .entry) w b (k .0) (k .1)))
+  | inr n ↦ mark-only v x bs s w b e (sym (put₂-other v c (some x) (mark v x bs s .entry) w b n) ∙ q)
+]
+
+-- a block more is placed, unless it was
+pub placed-logs : (call blocks : ℕ) (zeros : List (ℕ × ℕ)) (placed : List ℕ) → Logs call blocks zeros placed → (b : ℕ) → b < blocks
+    → Logs call blocks zeros (cond (has b placed) placed (placed ++ b ∷ []))
+placed-logs call blocks zeros placed h b lb = by (has b placed) refl
   where
-    by : ((w ≡ v) × (b ≡ c)) ⊎ (w ≡ v → b ≡ c → ⊥) → (mark v x bs s .entry w b ≡ some e → (s .entry w b ≡ some e) ⊎ (e ≡ x)) → (s .entry w b ≡ some e) ⊎ (e ≡ x)
-    by (inl k) below = inr (some-inj (sym q ∙ put₂-at v c (some x) (mark v x bs s .entry) w b (k .0) (k .1)))
-    by (inr n) below = below (sym (put₂-other v c (some x) (mark v x bs s .entry) w b n) ∙ q)
+    by : (c : Bool) → has b placed ≡ c → Logs call blocks zeros (cond c placed (placed ++ b ∷ []))
+    by true e = h
+    by false e = record {
+      noted = h .noted;
+      once = nodup-snoc placed b (h .once) (λ i. false-true e (has-in b placed i));
+      within = λ c i. elim (in-cases c placed (b ∷ []) i) [ inl j ↦ h .within c j | inr j ↦ rw (in-one c b j) lb ];
+    }
 
-module _ (g : Graph) where
-  pub mark-ranged : (v x : ℕ) (bs : List ℕ) (s : Form) → Ranged g s → x < s .next → Grow s (mark v x bs s) → Ranged g (mark v x bs s)
-  mark-ranged v x bs s h lx gr = subst (λ (t : Form). Ranged g t) (sym (mark-is v x bs s)) (record {
-    closed = h .closed;
-    homes = h .homes;
-    types = h .types;
-    entries = λ w b e q. on w b e (mark-only v x bs s w b e q);
-    owns = h .owns;
-    args = h .args;
+module _ (g : Graph) (s : Form) (h : Ranged g s) where
+  abbrev types : ℕ
+  types = length (g .types)
+
+  -- one more value; t are the targets afterwards
+  pub valued-more : (new : Info) → new .home < g .blocks → new .type < type-count → (t : ℕ → ℕ) → ((x : ℕ) → x < suc (s .next) → t x < suc (s .next))
+      → Valued (g .blocks) (put (s .next) new (s .info)) t (suc (s .next))
+  valued-more new lb ty t closed = record {
+    closed = closed;
+    homes = λ x l. elim (same? x (s .next)) [
+      | inl e ↦ rw (put-at (s .next) new (s .info) x e) lb
+      | inr n ↦ rw (put-other (s .next) new (s .info) x n) (h .valued .homes x (omega arith))
+    ];
+    types = λ x l. elim (same? x (s .next)) [
+      | inl e ↦ rw (put-at (s .next) new (s .info) x e) ty
+      | inr n ↦ rw (put-other (s .next) new (s .info) x n) (h .valued .types x (omega arith))
+    ];
+  }
+
+  -- its own target, the others' as they were
+  pub closed-more : s .target (s .next) ≡ s .next → (x : ℕ) → x < suc (s .next) → s .target x < suc (s .next)
+  closed-more fresh x l = elim (same? x (s .next)) [ inl e ↦ rw (e, fresh) (omega arith) | inr n ↦ let k = h .valued .closed x (omega arith) in omega (arith, k) ]
+
+  pub recorded-more : (n : ℕ) → s .next ≤ n → Recorded types (g .blocks) (s .entry) (s .own) (s .args) n
+  recorded-more n l = record {
+    entries = λ w b e q. le-trans (h .recorded .entries w b e q) l;
+    owns = λ w b e q. let k = h .recorded .owns w b e q in (k .0, k .1, le-trans (k .2) l);
+    passed = λ p i a k. le-trans (h .recorded .passed p i a k) l;
+  }
+
+  -- the graph grows
+  pub wider-ranged : (g′ : Graph) → g .blocks ≤ g′ .blocks → length (g .types) ≤ length (g′ .types) → g .call ≤ g′ .call → ((b : ℕ) → g′ .sealed b ≡ g .sealed b) → Ranged g′ s
+  wider-ranged g′ bl ty ca se = record {
+    valued = record { closed = h .valued .closed; homes = λ x l. le-trans (h .valued .homes x l) bl; types = h .valued .types };
+    recorded = record {
+      entries = h .recorded .entries;
+      owns = λ w b e q. let k = h .recorded .owns w b e q in (le-trans (k .0) ty, le-trans (k .1) bl, k .2);
+      passed = h .recorded .passed;
+    };
+    logs = record {
+      noted = λ z i. let k = h .logs .noted z i in (le-trans (k .0) ca, le-trans (k .1) bl);
+      once = h .logs .once;
+      within = λ b i. le-trans (h .logs .within b i) bl;
+    };
+    caused = wider-caused (h .caused) (length (g′ .types)) ty;
+    still = λ b z. h .still b (sym (se b) ∙ z);
+  }
+
+  pub place-ranged : (b : ℕ) → b < g .blocks → Ranged g (place-block b s)
+  place-ranged b lb = record { valued = h .valued; recorded = h .recorded; logs = placed-logs (g .call) (g .blocks) (s .zeros) (s .placed) (h .logs) b lb; caused = h .caused; still = h .still }
+
+  pub make-ranged : (m y b : ℕ) → b < g .blocks → y < type-count → s .target (s .next) ≡ s .next → Ranged g (make made y b (place-block b (with-makes s m)))
+  make-ranged m y b lb ly fresh = record {
+    valued = valued-more (record { sort = made; type = y; home = b }) lb ly (s .target) (closed-more fresh);
+    recorded = recorded-more (suc (s .next)) (omega arith);
+    logs = placed-logs (g .call) (g .blocks) (s .zeros) (s .placed) (h .logs) b lb;
+    caused = new-caused (h .caused) (record { sort = made; type = y; home = b }) (λ q. absurd (made-param q)) (λ q. absurd (made-nought q));
     still = h .still;
-    caused = record { param-of = λ y l q. let k = h .caused .param-of y l q in (k .0, k .1, gr .entry (k .0) (s .info y .home) y (k .2)); zero-of = h .caused .zero-of };
-    zeros = h .zeros;
-    once = h .once;
-    placed = h .placed;
-  })
+  }
     where
-      on : (w b e : ℕ) → (s .entry w b ≡ some e) ⊎ (e ≡ x) → e < s .next
-      on w b e (inl q) = h .entries w b e q
-      on w b e (inr q) = subst (λ (j : ℕ). j < s .next) (sym q) lx
+      made-param : _≡_ {A = Sort} made param → ⊥
+      made-param q = let z : _≡_ {A = ℕ} 0 1 = cc in omega arith
 
-  -- a new parameter for v on c, where this waits afterwards
-  module _ (s : Form) (h : Ranged g s) (v c : ℕ) (ws : ℕ → List (ℕ × ℕ)) (lv : v < length (g .types)) (lc : c < g .blocks) (ty : type-of g v < 6) (fresh : s .target (s .next) ≡ s .next)
-      (blank : s .entry v c ≡ none) (quiet : (b : ℕ) → g .sealed b ≡ true → ws b ≡ []) where
-    abbrev new : Info
-    new = record { sort = param; type = type-of g v; home = c }
+      made-nought : _≡_ {A = Sort} made nought → ⊥
+      made-nought q = let z : _≡_ {A = ℕ} 0 1 = cc in omega arith
 
-    abbrev pub more : Form
-    more = record {
-      next = suc (s .next);
-      makes = s .makes;
-      info = put (s .next) new (s .info);
-      target = s .target;
-      params = put c (s .params c ++ s .next ∷ []) (s .params);
-      args = s .args;
-      pending = ws;
-      entry = put₂ v c (some (s .next)) (s .entry);
-      own = s .own;
-      zeros = s .zeros;
-      placed = s .placed;
-    }
+  pub write-ranged : (v b x : ℕ) → v < length (g .types) → b < g .blocks → x < s .next → Ranged g (write v b x s)
+  write-ranged v b x lv lb lx = record {
+    valued = h .valued;
+    recorded = record {
+      entries = h .recorded .entries;
+      owns = λ w c e q. elim (here? w v c b) [
+        | inl k ↦ (rw (k .0) lv, rw (k .1) lb, rw (some-inj (sym (put₂-at v b (some x) (s .own) w c (k .0) (k .1)) ∙ q)) at lx)
+        | inr n ↦ h .recorded .owns w c e (sym (put₂-other v b (some x) (s .own) w c n) ∙ q)
+      ];
+      passed = h .recorded .passed;
+    };
+    logs = h .logs;
+    caused = h .caused;
+    still = h .still;
+  }
 
-    pub more-ranged : Ranged g more
-    more-ranged = record {
-      closed = λ x l. closed x l (same? x (s .next));
-      homes = λ x l. homes x l (same? x (s .next));
-      types = λ x l. types x l (same? x (s .next));
-      entries = λ w b e q. entries w b e q (here? w v b c);
-      owns = λ w b e q. let k = h .owns w b e q in (k .0, k .1, omega (arith, k .2));
-      args = λ p i a k. omega (arith, h .args p i a k);
-      still = quiet;
-      caused = new-caused g s (h .caused) more new refl refl (λ w b e q. old w b e q (here? w v b c)) (λ x n. refl) (λ _. (v, lv, put₂-at v c (some (s .next)) (s .entry) v c refl refl)) (λ q. absurd (nought-param q refl));
-      zeros = h .zeros;
-      once = h .once;
-      placed = h .placed;
-    }
-      where
-        closed : (x : ℕ) → x < suc (s .next) → (x ≡ s .next) ⊎ (x ≢ s .next) → s .target x < suc (s .next)
-        closed x l (inl e) = subst (λ (j : ℕ). j < suc (s .next)) (sym (ap (s .target) e ∙ fresh)) (omega arith)
-        closed x l (inr n) = let k = h .closed x (omega arith) in omega (arith, k)
+  pub mark-ranged : (v x : ℕ) (bs : List ℕ) → x < s .next → Grow s (mark v x bs s) → Ranged g (mark v x bs s)
+  mark-ranged v x bs lx up = rw (mark-is v x bs s) (record {
+    valued = h .valued;
+    recorded = record {
+      entries = λ w b e q. elim (mark-only v x bs s w b e q) [ inl o ↦ h .recorded .entries w b e o | inr o ↦ rw o lx ];
+      owns = h .recorded .owns;
+      passed = h .recorded .passed;
+    };
+    logs = h .logs;
+    caused = entered-caused (h .caused) (mark v x bs s .entry) (up .entry);
+    still = h .still;
+  })
 
-        homes : (x : ℕ) → x < suc (s .next) → (x ≡ s .next) ⊎ (x ≢ s .next) → more .info x .home < g .blocks
-        homes x l (inl e) = subst (λ (j : Info). j .home < g .blocks) (sym (put-at (s .next) new (s .info) x e)) lc
-        homes x l (inr n) = subst (λ (j : Info). j .home < g .blocks) (sym (put-other (s .next) new (s .info) x n)) (h .homes x (omega arith))
+  -- a new parameter for v on c, where ws waits afterwards
+  pub grown-ranged : (v c : ℕ) (ws : ℕ → List (ℕ × ℕ)) → v < length (g .types) → c < g .blocks → type-of g v < type-count → s .target (s .next) ≡ s .next
+      → Grow s (grown g s v c ws) → ((b : ℕ) → g .sealed b ≡ true → ws b ≡ []) → Ranged g (grown g s v c ws)
+  grown-ranged v c ws lv lc ty fresh up quiet = record {
+    valued = valued-more new lc ty (s .target) (closed-more fresh);
+    recorded = record {
+      entries = λ w b e q. elim (here? w v b c) [
+        | inl k ↦ rw (some-inj (sym q ∙ put₂-at v c (some (s .next)) (s .entry) w b (k .0) (k .1))) (omega arith)
+        | inr n ↦ more .entries w b e (sym (put₂-other v c (some (s .next)) (s .entry) w b n) ∙ q)
+      ];
+      owns = more .owns;
+      passed = more .passed;
+    };
+    logs = h .logs;
+    caused = new-caused (entered-caused (h .caused) (put₂ v c (some (s .next)) (s .entry)) (up .entry)) new
+        (λ _. (v, lv, put₂-at v c (some (s .next)) (s .entry) v c refl refl)) (λ q. absurd (nought-param q refl));
+    still = quiet;
+  }
+    where
+      new : Info
+      new = record { sort = param; type = type-of g v; home = c }
 
-        types : (x : ℕ) → x < suc (s .next) → (x ≡ s .next) ⊎ (x ≢ s .next) → more .info x .type < 6
-        types x l (inl e) = subst (λ (j : Info). j .type < 6) (sym (put-at (s .next) new (s .info) x e)) ty
-        types x l (inr n) = subst (λ (j : Info). j .type < 6) (sym (put-other (s .next) new (s .info) x n)) (h .types x (omega arith))
-
-        entries : (w b e : ℕ) → put₂ v c (some (s .next)) (s .entry) w b ≡ some e → ((w ≡ v) × (b ≡ c)) ⊎ (w ≡ v → b ≡ c → ⊥) → e < suc (s .next)
-        entries w b e q (inl k) = subst (λ (j : ℕ). j < suc (s .next)) (some-inj (sym (put₂-at v c (some (s .next)) (s .entry) w b (k .0) (k .1)) ∙ q)) (omega arith)
-        entries w b e q (inr n) = let k = h .entries w b e (sym (put₂-other v c (some (s .next)) (s .entry) w b n) ∙ q) in omega (arith, k)
-
-        old : (w b e : ℕ) → s .entry w b ≡ some e → ((w ≡ v) × (b ≡ c)) ⊎ (w ≡ v → b ≡ c → ⊥) → put₂ v c (some (s .next)) (s .entry) w b ≡ some e
-        old w b e q (inl k) = absurd (Option·none-ne-some e (sym blank ∙ sym (ap (λ (i : ℕ). s .entry i b) (k .0) ∙ ap (λ (i : ℕ). s .entry v i) (k .1)) ∙ q))
-        old w b e q (inr n) = put₂-other v c (some (s .next)) (s .entry) w b n ∙ q
+      more : Recorded (length (g .types)) (g .blocks) (s .entry) (s .own) (s .args) (suc (s .next))
+      more = recorded-more (suc (s .next)) (omega arith)
 
   -- settling the parameter x of b
-  module _ (s : Form) (h : Ranged g s) (b x : ℕ) (lb : b < g .blocks) (par : Param g s b x) (fresh : s .target (s .next) ≡ s .next) (rs : List ℕ) (low : (r : ℕ) → In r rs → r < s .next) where
+  module _ (b x : ℕ) (lb : b < g .blocks) (par : Param s b x) (fresh : s .target (s .next) ≡ s .next) (rs : List ℕ) (low : (r : ℕ) → In r rs → r < s .next) where
     abbrev Fine : Got → Type 0
     Fine r = Ranged g (r .1) × (r .0 < r .1 .next)
 
     zero-ranged : Fine (settle-left g b x rs s [])
     zero-ranged = (
       record {
-        closed = λ y l. closed y l (same? y x) (same? y (s .next));
-        homes = λ y l. homes y l (same? y (s .next));
-        types = λ y l. types y l (same? y (s .next));
-        entries = λ w c e q. omega (arith, h .entries w c e q);
-        owns = λ w c e q. let k = h .owns w c e q in (k .0, k .1, omega (arith, k .2));
-        args = λ p i a k. omega (arith, h .args p i a k);
-        still = h .still;
-        caused = new-caused g s (h .caused) (settle-left g b x rs s [] .1) (record { sort = nought; type = s .info x .type; home = b }) refl refl (λ w c e q. q) (alias-keeps g s (h .caused) x (s .next) (par .root)) (λ q. absurd (nought-param refl q))
+        valued = valued-more new lb (h .valued .types x (par .below)) (put x (s .next) (s .target)) (λ y l. elim (same? y x) [
+          | inl e ↦ rw (put-at x (s .next) (s .target) y e) (omega arith)
+          | inr n ↦ rw (put-other x (s .next) (s .target) y n) (closed-more fresh y l)
+        ]);
+        recorded = recorded-more (suc (s .next)) (omega arith);
+        logs =
+            let l = placed-logs (g .call) (g .blocks) (s .zeros) (s .placed) (h .logs) b lb in
+            record { noted = λ z i. elim (in-cases z (s .zeros) ((g .call, b) ∷ []) i) [ inl j ↦ l .noted z j | inr j ↦ rw (in-one z (g .call, b) j) (omega arith, lb) ]; once = l .once; within = l .within };
+        caused = new-caused (aliased-caused (h .caused) x (s .next) (par .root)) new (λ q. absurd (nought-param refl q))
             (λ _. (x, par .below, par .sort, par .home, put-same x (s .next) (s .target)));
-        zeros = λ z i. zs z (in-cases z (s .zeros) ((g .call, b) ∷ []) i);
-        once = placed-once b (s .placed) (h .once);
-        placed = placed-in b (g .blocks) (s .placed) lb (h .placed);
+        still = h .still;
       },
       omega arith,
     )
@@ -222,67 +259,40 @@ module _ (g : Graph) where
         new : Info
         new = record { sort = nought; type = s .info x .type; home = b }
 
-        closed : (y : ℕ) → y < suc (s .next) → (y ≡ x) ⊎ (y ≢ x) → (y ≡ s .next) ⊎ (y ≢ s .next) → put x (s .next) (s .target) y < suc (s .next)
-        closed y l (inl e) n = subst (λ (j : ℕ). j < suc (s .next)) (sym (put-at x (s .next) (s .target) y e)) (omega arith)
-        closed y l (inr d) (inl e) = subst (λ (j : ℕ). j < suc (s .next)) (sym (put-other x (s .next) (s .target) y d ∙ ap (s .target) e ∙ fresh)) (omega arith)
-        closed y l (inr d) (inr n) = subst (λ (j : ℕ). j < suc (s .next)) (sym (put-other x (s .next) (s .target) y d)) (let k = h .closed y (omega arith) in omega (arith, k))
-
-        homes : (y : ℕ) → y < suc (s .next) → (y ≡ s .next) ⊎ (y ≢ s .next) → put (s .next) (record { sort = nought; type = s .info x .type; home = b }) (s .info) y .home < g .blocks
-        homes y l (inl e) = subst (λ (j : Info). j .home < g .blocks) (sym (put-at (s .next) (record { sort = nought; type = s .info x .type; home = b }) (s .info) y e)) lb
-        homes y l (inr n) = subst (λ (j : Info). j .home < g .blocks) (sym (put-other (s .next) (record { sort = nought; type = s .info x .type; home = b }) (s .info) y n)) (h .homes y (omega arith))
-
-        types : (y : ℕ) → y < suc (s .next) → (y ≡ s .next) ⊎ (y ≢ s .next) → put (s .next) (record { sort = nought; type = s .info x .type; home = b }) (s .info) y .type < 6
-        types y l (inl e) = subst (λ (j : Info). j .type < 6) (sym (put-at (s .next) (record { sort = nought; type = s .info x .type; home = b }) (s .info) y e)) (h .types x (par .below))
-        types y l (inr n) = subst (λ (j : Info). j .type < 6) (sym (put-other (s .next) (record { sort = nought; type = s .info x .type; home = b }) (s .info) y n)) (h .types y (omega arith))
-
-        zs : (z : ℕ × ℕ) → In z (s .zeros) ⊎ In z ((g .call, b) ∷ []) → (z .0 ≤ g .call) × (z .1 < g .blocks)
-        zs z (inl i) = h .zeros z i
-        zs z (inr (inl e)) = (subst (λ (k : ℕ × ℕ). k .0 ≤ g .call) (sym e) (omega arith), subst (λ (k : ℕ × ℕ). k .1 < g .blocks) (sym e) lb)
-        zs z (inr (inr i)) = absurd i
-
     alias-ranged : (y : ℕ) → y < s .next → Fine (y, alias b x y s)
     alias-ranged y ly = (
       record {
-        closed = λ z l. closed z l (same? z x);
-        homes = h .homes;
-        types = h .types;
-        entries = h .entries;
-        owns = h .owns;
-        args = h .args;
+        valued = record {
+          closed = λ z l. elim (same? z x) [
+            | inl e ↦ rw (put-at x y (s .target) z e) ly
+            | inr n ↦ rw (put-other x y (s .target) z n) (h .valued .closed z l)
+          ];
+          homes = h .valued .homes;
+          types = h .valued .types;
+        };
+        recorded = h .recorded;
+        logs = h .logs;
+        caused = aliased-caused (h .caused) x y (par .root);
         still = h .still;
-        caused = alias-caused g s (h .caused) x y (par .root) b;
-        zeros = h .zeros;
-        once = h .once;
-        placed = h .placed;
       },
       ly,
     )
-      where
-        closed : (z : ℕ) → z < s .next → (z ≡ x) ⊎ (z ≢ x) → put x y (s .target) z < s .next
-        closed z l (inl e) = subst (λ (j : ℕ). j < s .next) (sym (put-at x y (s .target) z e)) ly
-        closed z l (inr n) = subst (λ (j : ℕ). j < s .next) (sym (put-other x y (s .target) z n)) (h .closed z l)
 
     feed-ranged : Fine (x, with-args s (feed-all g b (g .preds b) rs (s .args)))
     feed-ranged = (
       record {
-        closed = h .closed;
-        homes = h .homes;
-        types = h .types;
-        entries = h .entries;
-        owns = h .owns;
-        args = λ p i a k. on p i a (feeds-in g b (g .preds b) rs (s .args) p i a k);
+        valued = h .valued;
+        recorded = record {
+          entries = h .recorded .entries;
+          owns = h .recorded .owns;
+          passed = λ p i a k. elim (feeds-in g b (g .preds b) rs (s .args) p i a k) [ inl j ↦ h .recorded .passed p i a j | inr j ↦ low a j ];
+        };
+        logs = h .logs;
+        caused = h .caused;
         still = h .still;
-        caused = record { param-of = h .caused .param-of; zero-of = h .caused .zero-of };
-        zeros = h .zeros;
-        once = h .once;
-        placed = h .placed;
       },
       par .below,
     )
-      where
-        on : (p i a : ℕ) → In a (s .args p i) ⊎ In a rs → a < s .next
-        on p i a (inl k) = h .args p i a k
-        on p i a (inr k) = low a k
 
     pub settle-ranged : Ranged g (settle g b x rs s .1) × (settle g b x rs s .0 < settle g b x rs s .1 .next)
     settle-ranged = by (without x (map (resolve s) rs)) refl
@@ -293,8 +303,8 @@ module _ (g : Graph) where
           where
             ly : y < s .next
             ly =
-                let k = map-in (resolve s) rs y (without-in x (map (resolve s) rs) y (subst (λ (l : List ℕ). In y l) (sym e) (inl refl)) .0) in
-                subst (λ (j : ℕ). j < s .next) (sym (k .2)) (follow-below (s .target) (s .next) (h .closed) (s .next) (k .0) (low (k .0) (k .1)))
+                let k = map-in (resolve s) rs y (without-in x (map (resolve s) rs) y (rw e (inl refl)) .0) in
+                rw (k .2) (follow-below (s .target) (s .next) (h .valued .closed) (s .next) (k .0) (low (k .0) (k .1)))
 
             pick : (c : Bool) → Fine (cond c (y, alias b x y s) (x, with-args s (feed-all g b (g .preds b) rs (s .args))))
             pick true = alias-ranged y ly

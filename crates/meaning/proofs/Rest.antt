@@ -1,174 +1,151 @@
 -- Between runs of the machine: the invariant without edges, ranges and room hold before and after each use and each seal. Assumes nothing.
-use Prim.Native.Nat.{ℕ, zero, suc, _+_, _*_, _<_, _≤_}
+use Prim.Native.Nat.{ℕ, zero, suc, _+_, _<_, _≤_}
 use mathlib.Core.Path.{_≡_, refl, sym, ap, _∙_, subst, fun-ext}
 use mathlib.Core.Logic.{_≢_, _⊎_, inl, inr}
-use mathlib.Core.Bool.{Bool, true, false, cond}
-use mathlib.Core.Option.{Option, none, some}
-use mathlib.Core.List.{List, [], _∷_, _++_, map}
+use mathlib.Core.Bool.{Bool, true, false}
+use mathlib.Core.Option.{some}
+use mathlib.Core.List.{List, [], _∷_, _++_}
 use lib.ListN.{length}
 use native.Mathlib.Omega.{arith}
-use native.Mathlib.Nat.{le-trans, not-suc-le-zero}
-use Rattle.definition.specs.Base.{put, put₂, upFrom}
-use Rattle.definition.specs.Form.{Graph, Form, def}
-use Rattle.definition.specs.Read.{Got, set-pending, fill, read, depth, settle-pending}
+use native.Mathlib.Nat.{le-trans}
+use Rattle.definition.specs.Base.{put, upFrom}
+use Rattle.definition.specs.Form.{Graph, Form}
+use Rattle.definition.specs.Read.{set-pending, fill, read, depth, settle-pending}
 use Rattle.definition.specs.Session.{mark-sealed, seal-form, seal-each}
-use Rattle.meaning.specs.Machine.{Task, look, finish, Conf, conf, schedule, turn, turns}
+use Rattle.meaning.specs.Machine.{look, finish, conf, schedule}
 use Rattle.meaning.specs.Path.{In}
-use Rattle.meaning.proofs.Maps.{same?, put-same, put-other, put-at}
-use Rattle.meaning.proofs.Lists.{PIn, snds}
-use Rattle.meaning.proofs.Inv.{Grow, pending, Inv}
-use Rattle.meaning.proofs.Keeping.{false-true}
-use Rattle.meaning.proofs.Reading.{Sound, Busy, Read, reads}
-use Rattle.meaning.proofs.Sealing.{idle, shallow, Sealed, sealed-one, marked-inv, sound-sealed, is-sealed}
-use Rattle.meaning.proofs.Machine.{Goes, does, fills}
-use Rattle.meaning.proofs.Room.{waiting, waiting-put}
+use Rattle.meaning.proofs.Maps.{same?, put-same, put-other, put-at, put-id}
+use Rattle.meaning.proofs.Inv.{Inv}
+use Rattle.meaning.proofs.Reading.{Sound, reads}
+use Rattle.meaning.proofs.Sealing.{idle, shallow, sealed-one, marked-inv, sound-sealed}
+use Rattle.meaning.proofs.Machine.{does, fills}
+use Rattle.meaning.proofs.Load.{waiting-put, Load}
 use Rattle.meaning.proofs.Ranges.{Bounds, Ranged}
-use Rattle.meaning.proofs.Mid.{Load, lack-all, all-fewer, Mid, Now, looks-on, goes-now, at-work}
+use Rattle.meaning.proofs.Lacking.{all-fewer}
+use Rattle.meaning.proofs.Mid.{Now, looks-on, goes-now}
 
-module _ (N M A Z : ℕ) (eN : 64 ≤ N) (eM : 64 ≤ M) where
-  -- op is at work, and k of it are to be settled
-  pub record Rest (g : Graph) (op : ℕ → List (ℕ × ℕ)) (k : ℕ) (s : Form) : Type 0 where
-    pub kp : ℕ → List ℕ
-    pub inv : Inv g ⊥ s kp op
-    pub ranged : Ranged g s
-    pub load : Load N M A Z s k
+-- op is at work, and k of it are to be settled
+pub record Rest (g : Graph) (op : ℕ → List (ℕ × ℕ)) (k : ℕ) (s : Form) : Type 0 where
+  pub kp : ℕ → List ℕ
+  pub inv : Inv g ⊥ s kp op
+  pub ranged : Ranged g s
+  pub load : Load s k
 
-  module _ (g : Graph) (G : Sound g) (B : Bounds g) where
-    abbrev few : g .blocks ≤ N
-    few = le-trans (B .few) eN
+module _ (g : Graph) (G : Sound g) (B : Bounds g) where
+  pub use-start : (v : ℕ) (lv : v < length (g .types)) (b : ℕ) (s : Form) → b < g .blocks → Rest g idle 0 s → Now g v idle 0 (conf (look b ∷ []) [] s)
+  use-start v lv b s lb h = (record { kp = h .kp; inv = h .inv; ranged = h .ranged; load = h .load; busy = λ c z. inl refl; sane = (lb, tt); fits = tt }, λ r i. absurd i)
 
-    abbrev many : length (g .types) ≤ M
-    many = le-trans (B .vars) eM
+  -- the parameter at work is known
+  pub at-head : (b : ℕ) → g .sealed b ≡ true → (w : ℕ × ℕ) (ws : List (ℕ × ℕ)) (k : ℕ) (s : Form) → Rest g (put b (w ∷ ws) idle) k s → s .entry (w .0) b ≡ some (w .1)
+  at-head b seal w ws k s h = h .inv .pend (w .0) b (w .1) (rw (seal, put-same b (w ∷ ws) idle) (inl refl)) .0
 
-    -- a run for v
-    abbrev pub Running : (v : ℕ) → v < length (g .types) → (ℕ → List (ℕ × ℕ)) → ℕ → Conf → Type 0
-    Running v lv rest k c = Now g G B v lv N M A Z (le-trans (B .few) eN) (le-trans (B .vars) eM) rest k c
-
-    pub use-start : (v : ℕ) (lv : v < length (g .types)) (b : ℕ) (s : Form) → b < g .blocks → Rest g idle 0 s → Running v lv idle 0 (conf (look b ∷ []) [] s)
-    use-start v lv b s lb h = (record { kp = h .kp; inv = h .inv; ranged = h .ranged; load = h .load; busy = λ c z. inl refl; sane = (lb, tt); fits = tt }, λ r i. absurd i)
-
-    -- the parameter at work is known
-    pub at-head : (b : ℕ) → g .sealed b ≡ true → (w : ℕ × ℕ) (ws : List (ℕ × ℕ)) (k : ℕ) (s : Form) → Rest g (put b (w ∷ ws) idle) k s → s .entry (w .0) b ≡ some (w .1)
-    at-head b seal w ws k s h = h .inv .pend (w .0) b (w .1) (rw (seal, put-same b (w ∷ ws) idle) (inl (refl, refl))) .0
-
-    pub seal-start : (b : ℕ) → g .sealed b ≡ true → (w : ℕ × ℕ) (ws : List (ℕ × ℕ)) (s : Form) (lv : w .0 < length (g .types)) → Rest g (put b (w ∷ ws) idle) (suc (length ws)) s
-        → Running (w .0) lv (put b ws idle) (length ws) (conf (schedule g (w .1) b []) [] s)
-    seal-start b seal w ws s lv h = (
-      looks-on g G B (w .0) lv N M A Z few many (put b ws idle) (length ws) (g .preds b) (finish (w .1) b ∷ []) 0 s (λ p i. G .range b p i) (record {
-        kp = h .kp;
-        inv = subst (λ (f : ℕ → List (ℕ × ℕ)). Inv g ⊥ s (h .kp) f) (fun-ext (λ c. same-work c (same? c b))) (h .inv);
-        ranged = h .ranged;
-        load = h .load;
-        busy = λ c e. busy c (same? c b);
-        sane = (seal, tt);
-        fits = (0, refl, tt);
-      }),
-      λ r i. absurd i,
-    )
-      where
-        same-work : (c : ℕ) → (c ≡ b) ⊎ (c ≢ b) → put b (w ∷ ws) idle c ≡ put b (w ∷ put b ws idle b) (put b ws idle) c
-        same-work c (inl q) = put-at b (w ∷ ws) idle c q ∙ ap {B = List (ℕ × ℕ)} (λ (u : List (ℕ × ℕ)). w ∷ u) (sym (put-same b ws idle)) ∙ sym (put-at b (w ∷ put b ws idle b) (put b ws idle) c q)
-        same-work c (inr n) = put-other b (w ∷ ws) idle c n ∙ sym (put-other b (w ∷ put b ws idle b) (put b ws idle) c n ∙ put-other b ws idle c n)
-
-        busy : (c : ℕ) → (c ≡ b) ⊎ (c ≢ b) → (put b (w ∷ put b ws idle b) (put b ws idle) c ≡ []) ⊎ ((e : ℕ) × (s .entry (w .0) c ≡ some e))
-        busy c (inl q) = inr (w .1, ap (s .entry (w .0)) q ∙ at-head b seal w ws (suc (length ws)) s h)
-        busy c (inr n) = inl (put-other b (w ∷ put b ws idle b) (put b ws idle) c n ∙ put-other b ws idle c n)
-
-    pub run-end : (v : ℕ) (lv : v < length (g .types)) (rest : ℕ → List (ℕ × ℕ)) (k : ℕ) (rs : List ℕ) (s : Form) → Running v lv rest k (conf [] rs s) → Rest g rest k s
-    run-end v lv rest k rs s h = record { kp = h .0 .kp; inv = h .0 .inv; ranged = h .0 .ranged; load = h .0 .load }
-
-    -- a use
-    pub read-rest : (v : ℕ) (lv : v < length (g .types)) (b : ℕ) (s : Form) → b < g .blocks → Rest g idle 0 s
-        → Rest g idle 0 (read (depth g) g v b s .1) × (read (depth g) g v b s .0 < read (depth g) g v b s .1 .next) × (s .next ≤ read (depth g) g v b s .1 .next)
-    read-rest v lv b s lb h =
-        let r = read (depth g) g v b s in
-        let e = goes-now g G B v lv N M A Z few many idle 0 (does g G v lv (depth g) b s lb (shallow v s g) [] []) (use-start v lv b s lb h) in
-        (run-end v lv idle 0 (r .0 ∷ []) (r .1) e, e .1 (r .0) (inl refl), reads g G v lv ⊥ (depth g) b s (h .kp) idle lb (h .inv) (λ c z. inl refl) (shallow v s g) .grow .more)
-
-    -- the first pending variable
-    pub next-rest : (b : ℕ) → g .sealed b ≡ true → (w : ℕ × ℕ) (ws : List (ℕ × ℕ)) (s : Form) → Rest g (put b (w ∷ ws) idle) (suc (length ws)) s
-        → Rest g (put b ws idle) (length ws) (fill (read (depth g) g (w .0)) g b (w .1) s .1)
-    next-rest b seal w ws s h =
-        let v = w .0 in
-        let lv = h .inv .known v b (w .1) (at-head b seal w ws (suc (length ws)) s h) .0 in
-        let q = fill (read (depth g) g v) g b (w .1) s in
-        let e = goes-now g G B v lv N M A Z few many (put b ws idle) (length ws) (fills g G v lv (depth g) b (w .1) s (shallow v s g) [] []) (seal-start b seal w ws s lv h) in
-        run-end v lv (put b ws idle) (length ws) (q .0 ∷ []) (q .1) e
-
-    -- some of the pending variables, where others are left
-    pub some-rest : (b : ℕ) → g .sealed b ≡ true → (us ws : List (ℕ × ℕ)) (s : Form) → Rest g (put b (us ++ ws) idle) (length (us ++ ws)) s → Rest g (put b ws idle) (length ws) (settle-pending g b us s)
-    some-rest b seal [] ws s h = h
-    some-rest b seal (w ∷ us) ws s h = some-rest b seal us ws (fill (read (depth g) g (w .0)) g b (w .1) s .1) (next-rest b seal w (us ++ ws) s h)
-
-    -- all of them
-    pub pending-rest : (b : ℕ) → g .sealed b ≡ true → (ws : List (ℕ × ℕ)) (s : Form) → Rest g (put b ws idle) (length ws) s → Rest g idle 0 (settle-pending g b ws s)
-    pending-rest b seal [] s h = record { kp = h .kp; inv = subst (λ (f : ℕ → List (ℕ × ℕ)). Inv g ⊥ s (h .kp) f) (fun-ext (λ c. on c (same? c b))) (h .inv); ranged = h .ranged; load = h .load }
-      where
-        on : (c : ℕ) → (c ≡ b) ⊎ (c ≢ b) → put b [] idle c ≡ []
-        on c (inl q) = put-at b [] idle c q
-        on c (inr n) = put-other b [] idle c n
-    pending-rest b seal (w ∷ ws) s h = pending-rest b seal ws (fill (read (depth g) g (w .0)) g b (w .1) s .1) (next-rest b seal w ws s h)
-
-  -- a seal
-  module _ (g : Graph) (G : Sound g) (B : Bounds g) (b : ℕ) (lb : b < g .blocks) (unsealed : g .sealed b ≡ false) where
-    pub bounds-sealed : Bounds (mark-sealed g b)
-    bounds-sealed = record { few = B .few; vars = B .vars; typed = B .typed; eight = B .eight; aims = B .aims; from = B .from; branches = B .branches; shut = λ c z. shut c z (same? c b) }
-      where
-        shut : (c : ℕ) → put b true (g .sealed) c ≡ true → (c ≡ b) ⊎ (c ≢ b) → c < g .blocks
-        shut c z (inl q) = subst (λ (j : ℕ). j < g .blocks) (sym q) lb
-        shut c z (inr n) = B .shut c (sym (put-other b true (g .sealed) c n) ∙ z)
-
-    -- the mark alone: what waited is at work
-    pub mark-rest : (s : Form) → Rest g idle 0 s → Rest (mark-sealed g b) (put b (s .pending b) idle) (length (s .pending b)) (set-pending b [] s)
-    mark-rest s h = record {
+  pub seal-start : (b : ℕ) → g .sealed b ≡ true → (w : ℕ × ℕ) (ws : List (ℕ × ℕ)) (s : Form) → Rest g (put b (w ∷ ws) idle) (suc (length ws)) s
+      → Now g (w .0) (put b ws idle) (length ws) (conf (schedule g (w .1) b []) [] s)
+  seal-start b seal w ws s h = (
+    looks-on g (w .0) (put b ws idle) (length ws) (g .preds b) (finish (w .1) b ∷ []) 0 s (λ p i. G .range b p i) (record {
       kp = h .kp;
-      inv = marked-inv g ⊥ s (h .kp) (h .inv) b unsealed;
-      ranged = record {
-        closed = h .ranged .closed;
-        homes = h .ranged .homes;
-        types = h .ranged .types;
-        entries = h .ranged .entries;
-        owns = h .ranged .owns;
-        args = h .ranged .args;
-        still = λ c z. still c z (same? c b);
-        caused = record { param-of = h .ranged .caused .param-of; zero-of = h .ranged .caused .zero-of };
-        zeros = h .ranged .zeros;
-        once = h .ranged .once;
-        placed = h .ranged .placed;
-      };
-      load =
-          let w = waiting-put (s .pending) b [] N (le-trans lb (le-trans (B .few) eN)) in
-          let f = all-fewer N s (set-pending b [] s) (λ w c o. o) M in
-          record { values = omega (arith, h .load .values, w, f); zeros = omega (arith, h .load .zeros, w, f); made = h .load .made };
-    }
-      where
-        still : (c : ℕ) → put b true (g .sealed) c ≡ true → (c ≡ b) ⊎ (c ≢ b) → put b [] (s .pending) c ≡ []
-        still c z (inl q) = put-at b [] (s .pending) c q
-        still c z (inr n) = put-other b [] (s .pending) c n ∙ h .ranged .still c (sym (put-other b true (g .sealed) c n) ∙ z)
-
-    pub seal-rest : (s : Form) → Rest g idle 0 s → Rest (mark-sealed g b) idle 0 (seal-form g s b) × (s .next ≤ seal-form g s b .next)
-    seal-rest s h = (
-      pending-rest (mark-sealed g b) (record { range = G .range; nodup = G .nodup; inside = G .inside; names = G .names }) bounds-sealed b (put-same b true (g .sealed)) (s .pending b) (set-pending b [] s) (mark-rest s h),
-      sealed-one g ⊥ s (h .kp) (h .inv) b unsealed G .grow .more,
-    )
-
-  -- all blocks
-  pub record All-rest (n k : ℕ) (r : Graph × Form) : Type 0 where
-    pub calls : r .0 .call ≡ k
-    pub sound : Sound (r .0)
-    pub bounds : Bounds (r .0)
-    pub rest : Rest (r .0) idle 0 (r .1)
-    pub more : n ≤ r .1 .next
-
-  pub each-rest : (bs : List ℕ) (g : Graph) (s : Form) → ((b : ℕ) → In b bs → b < g .blocks) → Sound g → Bounds g → Rest g idle 0 s → All-rest (s .next) (g .call) (seal-each bs g s)
-  each-rest [] g s lt G B h = record { calls = refl; sound = G; bounds = B; rest = h; more = omega arith }
-  each-rest (b ∷ bs) g s lt G B h = by (g .sealed b) refl (each-rest bs g s (λ c i. lt c (inr i)) G B h)
-      (λ e. each-rest bs (mark-sealed g b) (seal-form g s b) (λ c i. lt c (inr i)) (record { range = G .range; nodup = G .nodup; inside = G .inside; names = G .names }) (bounds-sealed g G B b (lt b (inl refl)) e) (seal-rest g G B b (lt b (inl refl)) e s h .0))
+      inv = subst (λ (f : ℕ → List (ℕ × ℕ)). Inv g ⊥ s (h .kp) f) (fun-ext (λ c. same-work c (same? c b))) (h .inv);
+      ranged = h .ranged;
+      load = h .load;
+      busy = λ c e. busy c (same? c b);
+      sane = (seal, tt);
+      fits = (0, refl, tt);
+    }),
+    λ r i. absurd i,
+  )
     where
-      by : (z : Bool) → g .sealed b ≡ z → All-rest (s .next) (g .call) (seal-each bs g s) → (g .sealed b ≡ false → All-rest (seal-form g s b .next) (g .call) (seal-each bs (mark-sealed g b) (seal-form g s b)))
-          → All-rest (s .next) (g .call) (elim z as (λ _. Graph × Form) [ true ↦ seal-each bs g s | false ↦ seal-each bs (mark-sealed g b) (seal-form g s b) ])
-      by true e was go-on = was
-      by false e was go-on = let k = go-on e in record { calls = k .calls; sound = k .sound; bounds = k .bounds; rest = k .rest; more = le-trans (seal-rest g G B b (lt b (inl refl)) e s h .1) (k .more) }
+      same-work : (c : ℕ) → (c ≡ b) ⊎ (c ≢ b) → put b (w ∷ ws) idle c ≡ put b (w ∷ put b ws idle b) (put b ws idle) c
+      same-work c (inl q) = put-at b (w ∷ ws) idle c q ∙ ap {B = List (ℕ × ℕ)} (λ (u : List (ℕ × ℕ)). w ∷ u) (sym (put-same b ws idle)) ∙ sym (put-at b (w ∷ put b ws idle b) (put b ws idle) c q)
+      same-work c (inr n) = put-other b (w ∷ ws) idle c n ∙ sym (put-other b (w ∷ put b ws idle b) (put b ws idle) c n ∙ put-other b ws idle c n)
+
+      busy : (c : ℕ) → (c ≡ b) ⊎ (c ≢ b) → (put b (w ∷ put b ws idle b) (put b ws idle) c ≡ []) ⊎ ((e : ℕ) × (s .entry (w .0) c ≡ some e))
+      busy c (inl q) = inr (w .1, ap (s .entry (w .0)) q ∙ at-head b seal w ws (suc (length ws)) s h)
+      busy c (inr n) = inl (put-other b (w ∷ put b ws idle b) (put b ws idle) c n ∙ put-other b ws idle c n)
+
+  pub run-end : (v : ℕ) (lv : v < length (g .types)) (rest : ℕ → List (ℕ × ℕ)) (k : ℕ) (rs : List ℕ) (s : Form) → Now g v rest k (conf [] rs s) → Rest g rest k s
+  run-end v lv rest k rs s h = record { kp = h .0 .kp; inv = h .0 .inv; ranged = h .0 .ranged; load = h .0 .load }
+
+  -- a use
+  pub read-rest : (v : ℕ) (lv : v < length (g .types)) (b : ℕ) (s : Form) → b < g .blocks → Rest g idle 0 s
+      → Rest g idle 0 (read (depth g) g v b s .1) × (read (depth g) g v b s .0 < read (depth g) g v b s .1 .next) × (s .next ≤ read (depth g) g v b s .1 .next)
+  read-rest v lv b s lb h =
+      let r = read (depth g) g v b s in
+      let e = goes-now g G B v lv idle 0 (does g G v (depth g) b s lb (shallow v s g) [] []) (use-start v lv b s lb h) in
+      (run-end v lv idle 0 (r .0 ∷ []) (r .1) e, e .1 (r .0) (inl refl), reads g G v lv ⊥ (depth g) b s (h .kp) idle lb (h .inv) (λ c z. inl refl) (shallow v s g) .grow .more)
+
+  -- the first pending variable
+  pub next-rest : (b : ℕ) → g .sealed b ≡ true → (w : ℕ × ℕ) (ws : List (ℕ × ℕ)) (s : Form) → Rest g (put b (w ∷ ws) idle) (suc (length ws)) s
+      → Rest g (put b ws idle) (length ws) (fill (read (depth g) g (w .0)) g b (w .1) s .1)
+  next-rest b seal w ws s h =
+      let v = w .0 in
+      let lv = h .inv .known v b (w .1) (at-head b seal w ws (suc (length ws)) s h) .0 in
+      let q = fill (read (depth g) g v) g b (w .1) s in
+      let e = goes-now g G B v lv (put b ws idle) (length ws) (fills g G v (depth g) b (w .1) s (shallow v s g) [] []) (seal-start b seal w ws s h) in
+      run-end v lv (put b ws idle) (length ws) (q .0 ∷ []) (q .1) e
+
+  -- some of the pending variables, where others are left
+  pub some-rest : (b : ℕ) → g .sealed b ≡ true → (us ws : List (ℕ × ℕ)) (s : Form) → Rest g (put b (us ++ ws) idle) (length (us ++ ws)) s → Rest g (put b ws idle) (length ws) (settle-pending g b us s)
+  some-rest b seal [] ws s h = h
+  some-rest b seal (w ∷ us) ws s h = some-rest b seal us ws (fill (read (depth g) g (w .0)) g b (w .1) s .1) (next-rest b seal w (us ++ ws) s h)
+
+  -- all of them
+  pub pending-rest : (b : ℕ) → g .sealed b ≡ true → (ws : List (ℕ × ℕ)) (s : Form) → Rest g (put b ws idle) (length ws) s → Rest g idle 0 (settle-pending g b ws s)
+  pending-rest b seal [] s h = subst (λ (f : ℕ → List (ℕ × ℕ)). Rest g f 0 s) (put-id b idle) h
+  pending-rest b seal (w ∷ ws) s h = pending-rest b seal ws (fill (read (depth g) g (w .0)) g b (w .1) s .1) (next-rest b seal w ws s h)
+
+-- a seal
+module _ (g : Graph) (G : Sound g) (B : Bounds g) (b : ℕ) (lb : b < g .blocks) (unsealed : g .sealed b ≡ false) where
+  pub bounds-sealed : Bounds (mark-sealed g b)
+  bounds-sealed = record { few = B .few; vars = B .vars; typed = B .typed; dests = B .dests; aims = B .aims; from = B .from; branches = B .branches; shut = λ c z. shut c z (same? c b) }
+    where
+      shut : (c : ℕ) → put b true (g .sealed) c ≡ true → (c ≡ b) ⊎ (c ≢ b) → c < g .blocks
+      shut c z (inl q) = subst (λ (j : ℕ). j < g .blocks) (sym q) lb
+      shut c z (inr n) = B .shut c (sym (put-other b true (g .sealed) c n) ∙ z)
+
+  -- the mark alone: what waited is at work
+  pub mark-rest : (s : Form) → Rest g idle 0 s → Rest (mark-sealed g b) (put b (s .pending b) idle) (length (s .pending b)) (set-pending b [] s)
+  mark-rest s h = record {
+    kp = h .kp;
+    inv = marked-inv g ⊥ s (h .kp) (h .inv) b unsealed;
+    ranged = record {
+      valued = h .ranged .valued;
+      recorded = h .ranged .recorded;
+      logs = h .ranged .logs;
+      caused = h .ranged .caused;
+      still = λ c z. elim (same? c b) [
+        | inl q ↦ put-at b [] (s .pending) c q
+        | inr n ↦ put-other b [] (s .pending) c n ∙ h .ranged .still c (sym (put-other b true (g .sealed) c n) ∙ z)
+      ];
+    };
+    load =
+        let w = waiting-put (s .pending) b [] (le-trans lb (B .few)) in
+        let f = all-fewer s (set-pending b [] s) (λ w c o. o) in
+        record { values = omega (arith, h .load .values, w, f); zeros = omega (arith, h .load .zeros, w, f); made = h .load .made };
+  }
+
+  pub seal-rest : (s : Form) → Rest g idle 0 s → Rest (mark-sealed g b) idle 0 (seal-form g s b) × (s .next ≤ seal-form g s b .next)
+  seal-rest s h = (
+    pending-rest (mark-sealed g b) (sound-sealed g b G) bounds-sealed b (put-same b true (g .sealed)) (s .pending b) (set-pending b [] s) (mark-rest s h),
+    sealed-one g ⊥ s (h .kp) (h .inv) b unsealed G .grow .more,
+  )
+
+-- all blocks
+pub record All-rest (n k : ℕ) (r : Graph × Form) : Type 0 where
+  pub calls : r .0 .call ≡ k
+  pub sound : Sound (r .0)
+  pub bounds : Bounds (r .0)
+  pub rest : Rest (r .0) idle 0 (r .1)
+  pub more : n ≤ r .1 .next
+
+pub each-rest : (bs : List ℕ) (g : Graph) (s : Form) → ((b : ℕ) → In b bs → b < g .blocks) → Sound g → Bounds g → Rest g idle 0 s → All-rest (s .next) (g .call) (seal-each bs g s)
+each-rest [] g s lt G B h = record { calls = refl; sound = G; bounds = B; rest = h; more = omega arith }
+each-rest (b ∷ bs) g s lt G B h = by (g .sealed b) refl (each-rest bs g s (λ c i. lt c (inr i)) G B h)
+    (λ e. each-rest bs (mark-sealed g b) (seal-form g s b) (λ c i. lt c (inr i)) (sound-sealed g b G) (bounds-sealed g G B b (lt b (inl refl)) e) (seal-rest g G B b (lt b (inl refl)) e s h .0))
+  where
+    by : (z : Bool) → g .sealed b ≡ z → All-rest (s .next) (g .call) (seal-each bs g s) → (g .sealed b ≡ false → All-rest (seal-form g s b .next) (g .call) (seal-each bs (mark-sealed g b) (seal-form g s b)))
+        → All-rest (s .next) (g .call) (elim z as (λ _. Graph × Form) [ true ↦ seal-each bs g s | false ↦ seal-each bs (mark-sealed g b) (seal-form g s b) ])
+    by true e was go-on = was
+    by false e was go-on = let k = go-on e in record { calls = k .calls; sound = k .sound; bounds = k .bounds; rest = k .rest; more = le-trans (seal-rest g G B b (lt b (inl refl)) e s h .1) (k .more) }
 
 pub up-below : (n i b : ℕ) → In b (upFrom i n) → b < i + n
 up-below zero i b h = absurd h

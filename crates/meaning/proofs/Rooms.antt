@@ -1,51 +1,51 @@
 -- The rooms of the tables, after every list of calls and at every moment of a use and of a seal. Assumes nothing.
-use Prim.Native.Nat.{ℕ, zero, suc, _+_, _*_, _<_, _≤_}
+use Prim.Native.Nat.{ℕ, suc, _+_, _<_, _≤_}
 use mathlib.Core.Path.{_≡_, refl, sym, ap, _∙_, subst}
-use mathlib.Core.Logic.{_≢_, _⊎_, inl, inr}
-use mathlib.Core.Bool.{Bool, true, false, cond}
+use mathlib.Core.Logic.{inl, inr}
+use mathlib.Core.Bool.{Bool, true, false}
 use mathlib.Core.Option.{Option, none, some}
 use mathlib.Core.List.{List, [], _∷_, _++_, append-nil}
-use lib.Dec.{eqb, ltb}
+use lib.Dec.{ltb}
 use lib.ListN.{length, getD, length-append}
 use native.Mathlib.Omega.{arith}
-use native.Mathlib.Nat.{le-trans, not-suc-le-zero}
-use Rattle.definition.specs.Base.{put, put₂, has, orElse}
+use native.Mathlib.Nat.{le-trans}
+use Rattle.entity.specs.Limits.{call-room, limits, result-room}
+use Rattle.definition.specs.Base.{put, has, orElse}
 use Rattle.definition.specs.Form.{Graph, Form, def}
-use Rattle.definition.specs.Read.{write}
-use Rattle.definition.specs.Session.{Call, State, session, mark-sealed}
-use Rattle.meaning.specs.Machine.{Task, look, finish, Conf, conf, schedule, visit, turn, turns}
+use Rattle.definition.specs.Session.{Call, State, session}
+use Rattle.meaning.specs.Machine.{Conf, conf, schedule, visit, turns}
 use Rattle.meaning.specs.Path.{In}
-use Rattle.meaning.proofs.Maps.{same?, put-same, put-other, put-at, some-inj}
-use Rattle.meaning.proofs.Lists.{Nodup, PIn, snds, in-left, in-right}
+use Rattle.meaning.specs.Rooms.{Rooms}
+use Rattle.meaning.proofs.Maps.{put-same, put-other, false-true, some-none, ltb-yes, ltb-no}
+use Rattle.meaning.proofs.Lists.{snds, has-in, in-has}
 use Rattle.meaning.proofs.Inv.{Inv, pending}
-use Rattle.meaning.proofs.Keeping.{false-true}
-use Rattle.meaning.proofs.Reading.{Sound, some-none}
+use Rattle.meaning.proofs.Reading.{Sound}
 use Rattle.meaning.proofs.Sealing.{idle}
-use Rattle.meaning.proofs.Machine.{Has}
-use Rattle.meaning.proofs.Whole.{has-in, in-has}
+use Rattle.meaning.proofs.Lacking.{Has}
 use Rattle.meaning.proofs.Heights.{Within, run-within}
-use Rattle.meaning.proofs.Count.{heights}
-use Rattle.meaning.proofs.Fall.{seal-heights, use-within, seal-within, left, turn-falls, turns-end}
+use Rattle.meaning.proofs.Fall.{use-within, seal-within}
 use Rattle.meaning.proofs.Ranges.{Bounds, Ranged}
-use Rattle.meaning.proofs.Mid.{pigeon, Load, lack-all, all-less, load-next, Mid, Now, at-work, turns-now, visit-now, finishes}
-use Rattle.meaning.proofs.Rest.{Rest, Running, use-start, seal-start, at-head}
-use Rattle.meaning.proofs.Sure.{Safe, Sure, sure, write-somes, full, Always}
+use Rattle.meaning.proofs.Sums.{pigeon}
+use Rattle.meaning.proofs.Load.{Load, load-next}
+use Rattle.meaning.proofs.Mid.{at-work, turns-now, visit-now, finishes, Now}
+use Rattle.meaning.proofs.Rest.{Rest, seal-start, at-head}
+use Rattle.meaning.proofs.Sure.{sure, Sure}
 
 -- of one form
 module _ (g : Graph) (G : Sound g) (B : Bounds g) (s : Form) (kp : ℕ → List ℕ) (op : ℕ → List (ℕ × ℕ)) (h : Inv g ⊥ s kp op) (R : Ranged g s) where
   -- a parameter stands for a variable
   of-variable : (b x : ℕ) → In x (s .params b) → (w : ℕ) × (w < length (g .types)) × (s .entry w b ≡ some x)
   of-variable b x i =
-      let r = h .pars b x i in
+      let r = h .listed .pars b x i in
       let k = R .caused .param-of x (r .below) (r .sort) in
       (k .0, k .1, sym (ap (s .entry (k .0)) (r .home)) ∙ k .2)
 
   pub params-room : (b : ℕ) → length (s .params b) ≤ length (g .types)
-  params-room b = pigeon (λ w. s .entry w b) (length (g .types)) (s .params b) (h .nodup b) (of-variable b)
+  params-room b = pigeon (λ w. s .entry w b) (length (g .types)) (s .params b) (h .listed .nodup b) (of-variable b)
 
   -- before a new parameter
-  pub param-room : (v c : ℕ) → v < length (g .types) → s .entry v c ≡ none → suc (length (s .params c)) ≤ length (g .types)
-  param-room v c lv blank = pigeon (put v (some (s .next)) (λ w. s .entry w c)) (length (g .types)) (s .next ∷ s .params c) (λ i. omega (arith, h .pars c (s .next) i .below), h .nodup c) by
+  pub new-param-room : (v c : ℕ) → v < length (g .types) → s .entry v c ≡ none → suc (length (s .params c)) ≤ length (g .types)
+  new-param-room v c lv blank = pigeon (put v (some (s .next)) (λ w. s .entry w c)) (length (g .types)) (s .next ∷ s .params c) (λ i. omega (arith, h .listed .pars c (s .next) i .below), h .listed .nodup c) by
     where
       by : (x : ℕ) → In x (s .next ∷ s .params c) → (w : ℕ) × (w < length (g .types)) × (put v (some (s .next)) (λ w. s .entry w c) w ≡ some x)
       by x (inl e) = (v, lv, put-same v (some (s .next)) (λ w. s .entry w c) ∙ ap {B = Option ℕ} some (sym e))
@@ -58,7 +58,7 @@ module _ (g : Graph) (G : Sound g) (B : Bounds g) (s : Form) (kp : ℕ → List 
   snds-length (q ∷ l) = ap suc (snds-length l)
 
   parts : (b : ℕ) → length (s .params b) ≡ length (kp b) + length (pending g s op b)
-  parts b = ap length (h .split b) ∙ length-append (kp b) (snds (pending g s op b)) ∙ ap (λ (n : ℕ). length (kp b) + n) (snds-length (pending g s op b))
+  parts b = ap length (h .listed .split b) ∙ length-append (kp b) (snds (pending g s op b)) ∙ ap (λ (n : ℕ). length (kp b) + n) (snds-length (pending g s op b))
 
   -- what waits is no more than the parameters
   pub waits-room : (b : ℕ) → length (s .pending b) ≤ length (s .params b)
@@ -78,65 +78,44 @@ module _ (g : Graph) (G : Sound g) (B : Bounds g) (s : Form) (kp : ℕ → List 
       nil e = subst (λ (l : List ℕ). length l ≤ length (g .types)) (sym e) (omega arith)
 
       by₃ : i < length (g .dests p) → g .sealed (getD (g .dests p) i 0) ≡ true → (z : Bool) → has p (g .preds (getD (g .dests p) i 0)) ≡ z → length (s .args p i) ≤ length (g .types)
-      by₃ lt b true c = omega (arith, h .fed p i lt b (in-has p (g .preds (getD (g .dests p) i 0)) c), kept-room (getD (g .dests p) i 0), params-room (getD (g .dests p) i 0))
-      by₃ lt b false c = nil (h .unfed p i (λ _ _ j. false-true c (has-in p (g .preds (getD (g .dests p) i 0)) j)))
+      by₃ lt b true c = omega (arith, h .passed .fed p i lt b (in-has p (g .preds (getD (g .dests p) i 0)) c), kept-room (getD (g .dests p) i 0), params-room (getD (g .dests p) i 0))
+      by₃ lt b false c = nil (h .passed .unfed p i (λ _ _ j. false-true c (has-in p (g .preds (getD (g .dests p) i 0)) j)))
 
       by₂ : i < length (g .dests p) → (y : Bool) → g .sealed (getD (g .dests p) i 0) ≡ y → length (s .args p i) ≤ length (g .types)
       by₂ lt true b = by₃ lt b (has p (g .preds (getD (g .dests p) i 0))) refl
-      by₂ lt false b = nil (h .unfed p i (λ _ e _. false-true b e))
+      by₂ lt false b = nil (h .passed .unfed p i (λ _ e _. false-true b e))
 
       by : (x : Bool) → ltb i (length (g .dests p)) ≡ x → length (s .args p i) ≤ length (g .types)
-      by true a = by₂ (lib.Dec.ltb→lt i (length (g .dests p)) (Rattle.meaning.proofs.Maps.true-T (ltb i (length (g .dests p))) a)) (g .sealed (getD (g .dests p) i 0)) refl
-      by false a = let k = Rattle.meaning.proofs.Whole.ltb-no i (length (g .dests p)) a in nil (h .unfed p i (λ l _ _. absurd (omega (arith, l, k))))
+      by true a = by₂ (ltb-yes i (length (g .dests p)) a) (g .sealed (getD (g .dests p) i 0)) refl
+      by false a = let k = ltb-no i (length (g .dests p)) a in nil (h .passed .unfed p i (λ l _ _. absurd (omega (arith, l, k))))
 
   -- before the arguments of a parameter that is kept
   pub feed-room : (b v x : ℕ) (ws : List (ℕ × ℕ)) → g .sealed b ≡ true → op b ≡ (v, x) ∷ ws → (p i : ℕ) → In p (g .preds b) → i < length (g .dests p) → getD (g .dests p) i 0 ≡ b → suc (length (s .args p i)) ≤ length (g .types)
   feed-room b v x ws seal at p i ip lt q =
       let k : pending g s op b ≡ (v, x) ∷ ws = rw seal at in
-      let f : length (s .args p i) ≡ length (kp b) = subst (λ (c : ℕ). length (s .args p i) ≡ length (kp c)) q (h .fed p i lt (ap (g .sealed) q ∙ seal) (subst (λ (c : ℕ). In p (g .preds c)) (sym q) ip)) in
+      let f : length (s .args p i) ≡ length (kp b) = subst (λ (c : ℕ). length (s .args p i) ≡ length (kp c)) q (h .passed .fed p i lt (ap (g .sealed) q ∙ seal) (subst (λ (c : ℕ). In p (g .preds c)) (sym q) ip)) in
       omega (arith, f, parts b, ap length k, params-room b)
 
   pub preds-room : (b : ℕ) → length (g .preds b) ≤ g .blocks
   preds-room b = pigeon some (g .blocks) (g .preds b) (G .nodup b) (λ p i. (p, G .range b p i, refl))
 
   pub placed-room : length (s .placed) ≤ g .blocks
-  placed-room = pigeon some (g .blocks) (s .placed) (R .once) (λ b i. (b, R .placed b i, refl))
+  placed-room = pigeon some (g .blocks) (s .placed) (R .logs .once) (λ b i. (b, R .logs .within b i, refl))
 
--- before a new parameter for v on c: two more values, one more zero
-pub value-room : (N M A Z : ℕ) (s : Form) (k v c : ℕ) → Load N M A Z s k → v < M → c < N → def s v c ≡ none → (s .next + k + 2 ≤ s .makes + A) × (length (s .zeros) + k + 1 ≤ Z)
-value-room N M A Z s k v c h lv lc lack =
-    let f = all-less N s (write v c 0 s) (write-somes s v c 0) v c lack (0, has-it) lc M lv in
-    (omega (arith, h .values, f), omega (arith, h .zeros, f))
-  where
-    has-it : def (write v c 0 s) v c ≡ some 0
-    has-it = ap (λ (o : Option ℕ). orElse o (s .entry v c)) (Rattle.meaning.proofs.Lists.put₂-at v c (some 0) (s .own) v c refl refl)
-
--- all rooms
-pub record Rooms (g : Graph) (s : Form) : Type 0 where
-  pub blocks : g .blocks ≤ 64
-  pub variables : length (g .types) ≤ 64
-  pub values : s .next ≤ 12288
-  pub zeros : length (s .zeros) ≤ 4096
-  pub params : (b : ℕ) → length (s .params b) ≤ 64
-  pub args : (p i : ℕ) → length (s .args p i) ≤ 64
-  pub waits : (b : ℕ) → length (s .pending b) ≤ 64
-  pub preds : (b : ℕ) → length (g .preds b) ≤ 64
-  pub dests : (p : ℕ) → length (g .dests p) ≤ 8
-  pub placed : length (s .placed) ≤ 64
-
-pub rooms-of : (g : Graph) → Sound g → Bounds g → (s : Form) (kp : ℕ → List ℕ) (op : ℕ → List (ℕ × ℕ)) (k : ℕ) → Inv g ⊥ s kp op → Ranged g s → Load 64 64 8192 4096 s k → Rooms g s
+pub rooms-of : (g : Graph) → Sound g → Bounds g → (s : Form) (kp : ℕ → List ℕ) (op : ℕ → List (ℕ × ℕ)) (k : ℕ) → Inv g ⊥ s kp op → Ranged g s → Load s k → Rooms g s
 rooms-of g G B s kp op k h R l =
-    let n = load-next 64 64 8192 4096 s k l in
+    let n = load-next s k l in
     record {
       blocks = B .few;
       variables = B .vars;
-      values = omega (arith, n .0, l .made);
+      made = l .made;
+      values = omega (arith, n .0);
       zeros = omega (arith, n .1);
       params = λ b. le-trans (params-room g G B s kp op h R b) (B .vars);
       args = λ p i. le-trans (args-room g G B s kp op h R p i) (B .vars);
       waits = λ b. le-trans (waits-room g G B s kp op h R b) (le-trans (params-room g G B s kp op h R b) (B .vars));
       preds = λ b. le-trans (preds-room g G B s kp op h R b) (B .few);
-      dests = B .eight;
+      dests = B .dests;
       placed = le-trans (placed-room g G B s kp op h R) (B .few);
     }
 
@@ -151,57 +130,48 @@ pub fed-always : (cs : List Call) (p i : ℕ) → i < length (session cs .graph 
     → In p (session cs .graph .preds (getD (session cs .graph .dests p) i 0)) → length (session cs .form .args p i) ≡ length (session cs .form .params (getD (session cs .graph .dests p) i 0))
 fed-always cs p i lt z ip = by (session cs) (sure cs) lt z ip
   where
-    by : (t : State) → Always t → i < length (t .graph .dests p) → t .graph .sealed (getD (t .graph .dests p) i 0) ≡ true → In p (t .graph .preds (getD (t .graph .dests p) i 0))
+    by : (t : State) → Sure t → i < length (t .graph .dests p) → t .graph .sealed (getD (t .graph .dests p) i 0) ≡ true → In p (t .graph .preds (getD (t .graph .dests p) i 0))
         → length (t .form .args p i) ≡ length (t .form .params (getD (t .graph .dests p) i 0))
     by t h l y j =
         let d = getD (t .graph .dests p) i 0 in
         let none-left : pending (t .graph) (t .form) idle d ≡ [] = rw y in
-        h .whole .inv .fed p i l y j ∙ ap length (sym (h .whole .inv .split d ∙ ap (λ (u : List (ℕ × ℕ)). h .whole .kp d ++ snds u) none-left ∙ append-nil (h .whole .kp d)))
+        h .whole .inv .passed .fed p i l y j ∙ ap length (sym (h .whole .inv .listed .split d ∙ ap (λ (u : List (ℕ × ℕ)). h .whole .kp d ++ snds u) none-left ∙ append-nil (h .whole .kp d)))
 
--- at every moment of a run, from a form that is at rest
+-- At a moment of a run for v, where `rest` waits for the next runs and has k parameters.
+pub record Moment (g : Graph) (v : ℕ) (rest : ℕ → List (ℕ × ℕ)) (k : ℕ) (c : Conf) : Type 0 where
+  pub now : Now g v rest k c
+  pub rooms : Rooms g (c .form)
+  pub tasks : length (c .tasks) ≤ call-room limits
+  pub results : length (c .results) ≤ result-room limits
+  pub stacks : length (c .tasks) + length (c .results) ≤ result-room limits  -- both at once
+  pub within : Within g v (call-room limits) (result-room limits) c
+
 module _ (g : Graph) (G : Sound g) (B : Bounds g) where
-  abbrev pub Resting : (ℕ → List (ℕ × ℕ)) → ℕ → Form → Type 0
-  Resting op k s = Rest 64 64 8192 4096 full full g op k s
-
-  abbrev pub Runs : (v : ℕ) → v < length (g .types) → (ℕ → List (ℕ × ℕ)) → ℕ → Conf → Type 0
-  Runs v lv rest k c = Running 64 64 8192 4096 full full g G B v lv rest k c
-
-  pub record Moment (v : ℕ) (lv : v < length (g .types)) (rest : ℕ → List (ℕ × ℕ)) (k : ℕ) (c : Conf) : Type 0 where
-    pub now : Runs v lv rest k c
-    pub rooms : Rooms g (c .form)
-    pub tasks : length (c .tasks) ≤ 576
-    pub results : length (c .results) ≤ 513
-    pub stacks : length (c .tasks) + length (c .results) ≤ 513  -- both at once
-    pub within : Within g G v lv 576 513 c
-
-  moment : (v : ℕ) (lv : v < length (g .types)) (rest : ℕ → List (ℕ × ℕ)) (k : ℕ) (c : Conf) → Runs v lv rest k c → Within g G v lv 576 513 c → Moment v lv rest k c
-  moment v lv rest k c h w = record {
+  moment : (v : ℕ) (rest : ℕ → List (ℕ × ℕ)) (k : ℕ) (c : Conf) → Now g v rest k c → Within g v (call-room limits) (result-room limits) c → Moment g v rest k c
+  moment v rest k c h w = record {
     now = h;
-    rooms = rooms-of g G B (c .form) (h .0 .kp) (at-work g G B v lv 64 64 8192 4096 (le-trans (B .few) full) (le-trans (B .vars) full) (c .tasks) rest) (finishes (c .tasks) k) (h .0 .inv) (h .0 .ranged) (h .0 .load);
+    rooms = rooms-of g G B (c .form) (h .0 .kp) (at-work v (c .tasks) rest) (finishes (c .tasks) k) (h .0 .inv) (h .0 .ranged) (h .0 .load);
     tasks = omega (arith, w .calls);
     results = omega (arith, w .both);
     stacks = omega (arith, w .both);
     within = w;
   }
 
-  pub moment-turn : (v : ℕ) (lv : v < length (g .types)) (rest : ℕ → List (ℕ × ℕ)) (k : ℕ) (c : Conf) (n : ℕ) → Moment v lv rest k c → Moment v lv rest k (turns n g v c)
-  moment-turn v lv rest k c n m =
-      moment v lv rest k (turns n g v c) (turns-now g G B v lv 64 64 8192 4096 (le-trans (B .few) full) (le-trans (B .vars) full) rest k n c (m .now)) (run-within g G v lv n 576 513 c (m .within))
+  pub moment-turn : (v : ℕ) (lv : v < length (g .types)) (rest : ℕ → List (ℕ × ℕ)) (k : ℕ) (c : Conf) (n : ℕ) → Moment g v rest k c → Moment g v rest k (turns n g v c)
+  moment-turn v lv rest k c n m = moment v rest k (turns n g v c) (turns-now g G B v lv rest k n c (m .now)) (run-within g G v n (call-room limits) (result-room limits) c (m .within))
 
   -- settling the first of the pending variables of b
-  pub seal-moment : (b : ℕ) → g .sealed b ≡ true → (w : ℕ × ℕ) (ws : List (ℕ × ℕ)) (s : Form) (lv : w .0 < length (g .types)) → Resting (put b (w ∷ ws) idle) (suc (length ws)) s
-      → Moment (w .0) lv (put b ws idle) (length ws) (conf (schedule g (w .1) b []) [] s)
-  seal-moment b seal w ws s lv h = moment (w .0) lv (put b ws idle) (length ws) (conf (schedule g (w .1) b []) [] s)
-      (seal-start 64 64 8192 4096 full full g G B b seal w ws s lv h)
-      (seal-within g G (B .eight) (B .few) (w .0) lv (w .1) b s (B .shut b seal) (or-has (s .own (w .0) b) (at-head 64 64 8192 4096 full full g G B b seal w ws (suc (length ws)) s h)))
+  pub seal-moment : (b : ℕ) → g .sealed b ≡ true → (w : ℕ × ℕ) (ws : List (ℕ × ℕ)) (s : Form) → Rest g (put b (w ∷ ws) idle) (suc (length ws)) s
+      → Moment g (w .0) (put b ws idle) (length ws) (conf (schedule g (w .1) b []) [] s)
+  seal-moment b seal w ws s h = moment (w .0) (put b ws idle) (length ws) (conf (schedule g (w .1) b []) [] s) (seal-start g G B b seal w ws s h)
+      (seal-within g G B (w .0) (w .1) b s (B .shut b seal) (has-entry (s .own (w .0) b) (at-head g G B b seal w ws (suc (length ws)) s h)))
     where
-      or-has : (o : Option ℕ) {e : Option ℕ} → e ≡ some (w .1) → Has (orElse o e)
-      or-has (some y) q = (y, refl)
-      or-has none q = (w .1, q)
+      has-entry : (o : Option ℕ) {e : Option ℕ} → e ≡ some (w .1) → Has (orElse o e)
+      has-entry (some y) q = (y, refl)
+      has-entry none q = (w .1, q)
 
   -- a use in b, from its first visit on
-  pub use-moment : (v : ℕ) (lv : v < length (g .types)) (b : ℕ) (s : Form) → b < g .blocks → Resting idle 0 s → Moment v lv idle 0 (visit g v b [] [] s (def s v b))
-  use-moment v lv b s lb h = moment v lv idle 0 (visit g v b [] [] s (def s v b))
-      (visit-now g G B v lv 64 64 8192 4096 (le-trans (B .few) full) (le-trans (B .vars) full) idle 0 b [] [] s lb
-      (record { kp = h .kp; inv = h .inv; ranged = h .ranged; load = h .load; busy = λ c z. inl refl; sane = tt; fits = tt }) (λ r i. absurd i))
-      (use-within g G (B .eight) (B .few) v lv b s lb)
+  pub use-moment : (v : ℕ) (lv : v < length (g .types)) (b : ℕ) (s : Form) → b < g .blocks → Rest g idle 0 s → Moment g v idle 0 (visit g v b [] [] s (def s v b))
+  use-moment v lv b s lb h = moment v idle 0 (visit g v b [] [] s (def s v b))
+      (visit-now g G B v lv idle 0 b [] [] s lb (record { kp = h .kp; inv = h .inv; ranged = h .ranged; load = h .load; busy = λ c z. inl refl; sane = tt; fits = tt }) (λ r i. absurd i))
+      (use-within g G B v b s lb)

@@ -1,38 +1,33 @@
 -- All that the code may rely on, in one place: between calls, at every moment of a use, and at every moment of a seal. Assumes nothing.
-use Prim.Native.Nat.{ℕ, zero, suc, _+_, _<_, _≤_}
-use mathlib.Core.Path.{_≡_, refl, sym, ap, _∙_, subst}
-use mathlib.Core.Bool.{Bool, true, false}
-use mathlib.Core.Option.{Option, none, some}
+use Prim.Native.Nat.{ℕ, suc, _+_, _<_}
+use mathlib.Core.Path.{_≡_, _∙_, subst}
+use mathlib.Core.Bool.{true, false}
 use mathlib.Core.List.{List, [], _∷_, _++_}
-use lib.ListN.{length}
+use lib.ListN.{length, length-append}
 use native.Mathlib.Omega.{arith}
-use native.Mathlib.Nat.{le-trans}
 use Rattle.definition.specs.Base.{put}
 use Rattle.definition.specs.Form.{Graph, Form, def}
 use Rattle.definition.specs.Read.{read, depth, set-pending, settle-pending}
-use Rattle.definition.specs.Session.{Call, State, session, mark-sealed, seal-form}
-use Rattle.meaning.specs.Machine.{Task, Conf, conf, schedule, visit, turn, turns}
+use Rattle.definition.specs.Session.{Call, State, session, mark-sealed, seal-form, Reply, no, ok, reply, after, step, run, empty}
+use Rattle.meaning.specs.Machine.{conf, schedule, visit, turns}
+use Rattle.meaning.specs.Rooms.{Rooms}
+use Rattle.meaning.specs.Stored.{Stored}
+use Rattle.meaning.specs.Path.{In}
 use Rattle.meaning.proofs.Maps.{put-same}
 use Rattle.meaning.proofs.Reading.{Sound}
-use Rattle.meaning.proofs.Sealing.{idle}
-use Rattle.meaning.proofs.Ranges.{Bounds, Ranged}
-use Rattle.meaning.proofs.Rest.{Rest, read-rest, seal-rest, mark-rest, some-rest, bounds-sealed, at-head}
-use Rattle.meaning.proofs.Sure.{Always, sure, full}
-use Rattle.meaning.proofs.Rooms.{Rooms, rooms-of, Resting, Moment, moment-turn, use-moment, seal-moment}
-use Rattle.meaning.proofs.Stored.{Stored, stored-of}
-use Rattle.definition.specs.Read.{resolve}
-use Rattle.definition.specs.Session.{Done, Reply, no, ok, reply, after, step, run, empty}
-use Rattle.meaning.proofs.Inv.{Inv}
-use Rattle.meaning.proofs.Alias.{root-is}
-use Rattle.meaning.proofs.Ranges.{follow-below}
-use lib.ListN.{length-append}
+use Rattle.meaning.proofs.Sealing.{idle, sound-sealed}
+use Rattle.meaning.proofs.Ranges.{Bounds}
+use Rattle.meaning.proofs.Rest.{read-rest, seal-rest, mark-rest, some-rest, bounds-sealed, at-head, Rest}
+use Rattle.meaning.proofs.Sure.{sure, Sure}
+use Rattle.meaning.proofs.Rooms.{rooms-of, Moment, moment-turn, use-moment, seal-moment}
+use Rattle.meaning.proofs.Stored.{stored-of}
 
 pub record Steady (g : Graph) (s : Form) : Type 0 where
   pub sound : Sound g
   pub bounds : Bounds g
-  pub rest : Resting g sound bounds idle 0 s
+  pub rest : Rest g idle 0 s
 
-pub steady-of : (t : State) → Always t → Steady (t .graph) (t .form)
+pub steady-of : (t : State) → Sure t → Steady (t .graph) (t .form)
 steady-of t h = record { sound = h .whole .sound; bounds = h .safe .bounds; rest = record { kp = h .whole .kp; inv = h .whole .inv; ranged = h .safe .ranged; load = h .safe .load } }
 
 pub steady : (cs : List Call) → Steady (session cs .graph) (session cs .form)
@@ -48,12 +43,12 @@ module _ (g : Graph) (s : Form) (h : Steady g s) where
   -- a use
   module _ (v : ℕ) (lv : v < length (g .types)) (b : ℕ) (lb : b < g .blocks) where
     pub steady-use : Steady g (read (depth g) g v b s .1)
-    steady-use = record { sound = h .sound; bounds = h .bounds; rest = read-rest 64 64 8192 4096 full full g (h .sound) (h .bounds) v lv b s lb (h .rest) .0 }
+    steady-use = record { sound = h .sound; bounds = h .bounds; rest = read-rest g (h .sound) (h .bounds) v lv b s lb (h .rest) .0 }
 
     pub use-below : read (depth g) g v b s .0 < read (depth g) g v b s .1 .next
-    use-below = read-rest 64 64 8192 4096 full full g (h .sound) (h .bounds) v lv b s lb (h .rest) .1
+    use-below = read-rest g (h .sound) (h .bounds) v lv b s lb (h .rest) .1
 
-    pub during-use : (n : ℕ) → Moment g (h .sound) (h .bounds) v lv idle 0 (turns n g v (visit g v b [] [] s (def s v b)))
+    pub during-use : (n : ℕ) → Moment g v idle 0 (turns n g v (visit g v b [] [] s (def s v b)))
     during-use n = moment-turn g (h .sound) (h .bounds) v lv idle 0 (visit g v b [] [] s (def s v b)) n (use-moment g (h .sound) (h .bounds) v lv b s lb (h .rest))
 
   -- a seal
@@ -62,33 +57,29 @@ module _ (g : Graph) (s : Form) (h : Steady g s) where
     g′ = mark-sealed g b
 
     pub sound-then : Sound (mark-sealed g b)
-    sound-then = record { range = h .sound .range; nodup = h .sound .nodup; inside = h .sound .inside; names = h .sound .names }
+    sound-then = sound-sealed g b (h .sound)
 
     pub bounds-then : Bounds (mark-sealed g b)
-    bounds-then = bounds-sealed 64 64 8192 4096 full full g (h .sound) (h .bounds) b lb unsealed
+    bounds-then = bounds-sealed g (h .sound) (h .bounds) b lb unsealed
 
     pub steady-seal : Steady (mark-sealed g b) (seal-form g s b)
-    steady-seal = record { sound = sound-then; bounds = bounds-then; rest = seal-rest 64 64 8192 4096 full full g (h .sound) (h .bounds) b lb unsealed s (h .rest) .0 }
+    steady-seal = record { sound = sound-then; bounds = bounds-then; rest = seal-rest g (h .sound) (h .bounds) b lb unsealed s (h .rest) .0 }
 
     -- after the variables us are settled, before w and then ws
     module _ (us ws : List (ℕ × ℕ)) (w : ℕ × ℕ) (parts : s .pending b ≡ us ++ w ∷ ws) where
       abbrev pub then : Form
       then = settle-pending (mark-sealed g b) b us (set-pending b [] s)
 
-      pub seal-rests : Resting (mark-sealed g b) sound-then bounds-then (put b (w ∷ ws) idle) (suc (length ws)) (settle-pending (mark-sealed g b) b us (set-pending b [] s))
-      seal-rests = some-rest 64 64 8192 4096 full full (mark-sealed g b) sound-then bounds-then b (put-same b true (g .sealed)) us (w ∷ ws) (set-pending b [] s)
-          (subst (λ (l : List (ℕ × ℕ)). Resting (mark-sealed g b) sound-then bounds-then (put b l idle) (length l) (set-pending b [] s)) parts (mark-rest 64 64 8192 4096 full full g (h .sound) (h .bounds) b lb unsealed s (h .rest)))
+      pub seal-rests : Rest (mark-sealed g b) (put b (w ∷ ws) idle) (suc (length ws)) (settle-pending (mark-sealed g b) b us (set-pending b [] s))
+      seal-rests = some-rest (mark-sealed g b) sound-then bounds-then b (put-same b true (g .sealed)) us (w ∷ ws) (set-pending b [] s)
+          (subst (λ (l : List (ℕ × ℕ)). Rest (mark-sealed g b) (put b l idle) (length l) (set-pending b [] s)) parts (mark-rest g (h .sound) (h .bounds) b lb unsealed s (h .rest)))
 
       pub known-then : w .0 < length (g .types)
-      known-then = seal-rests .inv .known (w .0) b (w .1) (at-head 64 64 8192 4096 full full (mark-sealed g b) sound-then bounds-then b (put-same b true (g .sealed)) w ws (suc (length ws)) (settle-pending (mark-sealed g b) b us (set-pending b [] s)) seal-rests) .0
+      known-then = seal-rests .inv .known (w .0) b (w .1) (at-head (mark-sealed g b) sound-then bounds-then b (put-same b true (g .sealed)) w ws (suc (length ws)) (settle-pending (mark-sealed g b) b us (set-pending b [] s)) seal-rests) .0
 
-      pub during-seal : (n : ℕ) → Moment (mark-sealed g b) sound-then bounds-then (w .0) known-then (put b ws idle) (length ws) (turns n (mark-sealed g b) (w .0) (conf (schedule (mark-sealed g b) (w .1) b []) [] (settle-pending (mark-sealed g b) b us (set-pending b [] s))))
+      pub during-seal : (n : ℕ) → Moment (mark-sealed g b) (w .0) (put b ws idle) (length ws) (turns n (mark-sealed g b) (w .0) (conf (schedule (mark-sealed g b) (w .1) b []) [] (settle-pending (mark-sealed g b) b us (set-pending b [] s))))
       during-seal n = moment-turn (mark-sealed g b) sound-then bounds-then (w .0) known-then (put b ws idle) (length ws) (conf (schedule (mark-sealed g b) (w .1) b []) [] (settle-pending (mark-sealed g b) b us (set-pending b [] s))) n
-          (seal-moment (mark-sealed g b) sound-then bounds-then b (put-same b true (g .sealed)) w ws (settle-pending (mark-sealed g b) b us (set-pending b [] s)) known-then seal-rests)
-
--- following aliases ends, in range
-pub resolve-ends : (g : Graph) (s : Form) (kp : ℕ → List ℕ) (op : ℕ → List (ℕ × ℕ)) → Inv g ⊥ s kp op → Ranged g s → (x : ℕ) → x < s .next → (resolve s x < s .next) × (s .target (resolve s x) ≡ resolve s x)
-resolve-ends g s kp op h R x l = (follow-below (s .target) (s .next) (R .closed) (s .next) x l, root-is (s .target) (s .next) x (h .tree))
+          (seal-moment (mark-sealed g b) sound-then bounds-then b (put-same b true (g .sealed)) w ws (settle-pending (mark-sealed g b) b us (set-pending b [] s)) seal-rests)
 
 -- a call more is done with each call
 after-count : (t : State) (c : Call) (r : Reply) → length (after t c r .done) ≡ suc (length (t .done))
@@ -101,3 +92,7 @@ run-count (c ∷ cs) t = omega (arith, run-count cs (step t c), after-count t c 
 
 pub calls-count : (cs : List Call) → (session cs .graph .call ≡ length cs) × (length (session cs .done) ≡ length cs)
 calls-count cs = let k = run-count cs empty in let d : length (session cs .done) ≡ length cs = omega (arith, k) in (sure cs .count ∙ d, d)
+
+-- a zero was logged by a call
+pub logged : (cs : List Call) (z : ℕ × ℕ) → In z (session cs .form .zeros) → z .0 < length cs
+logged cs z i = omega (arith, sure cs .logged z i, calls-count cs .0)

@@ -1,105 +1,74 @@
 -- Every number stored in a table is in range, after every list of calls and at every moment of a run; and how far a walk goes. Assumes nothing.
-use Prim.Native.Nat.{ℕ, zero, suc, _+_, _*_, _<_, _≤_}
+pub use Rattle.meaning.proofs.Lists.{nil-of}
+use Prim.Native.Nat.{ℕ, zero, suc, _<_, _≤_}
 use mathlib.Core.Path.{_≡_, refl, sym, ap, _∙_, subst}
-use mathlib.Core.Logic.{_≢_, _⊎_, inl, inr}
-use mathlib.Core.Bool.{Bool, true, false, cond, _||_}
+use mathlib.Core.Logic.{inl, inr}
+use mathlib.Core.Bool.{Bool, true, false, _||_}
 use mathlib.Core.Option.{Option, none, some}
-use mathlib.Core.List.{List, [], _∷_, _++_}
+use mathlib.Core.List.{List, [], _∷_}
 use lib.Dec.{eqb, ltb}
 use lib.ListN.{length, getD}
 use native.Mathlib.Omega.{arith}
-use native.Mathlib.Nat.{le-trans, not-suc-le-zero, le-of-suc-le-suc}
 use Rattle.definition.specs.Base.{has}
 use Rattle.definition.specs.Form.{Graph, Form, def}
-use Rattle.definition.specs.Read.{Walk, stop, on-to, past, walk, single}
-use Rattle.definition.specs.Session.{Call, State, session}
-use Rattle.meaning.specs.Machine.{Task, Conf, conf}
+use Rattle.definition.specs.Read.{Walk, on-to, past, walk, single}
+use Rattle.definition.specs.Session.{Call, session}
+use Rattle.meaning.specs.Machine.{Conf}
 use Rattle.meaning.specs.Path.{In}
-use Rattle.meaning.proofs.Maps.{same?, eqb-diff, true-T}
-use Rattle.meaning.proofs.Lists.{Nodup, PIn}
-use Rattle.meaning.proofs.Inv.{Inv, pending, pending-par}
-use Rattle.meaning.proofs.Keeping.{false-true}
-use Rattle.meaning.proofs.Reading.{Sound, Trail, Walked, walked}
+use Rattle.meaning.specs.Stored.{Nodup, Stored}
+use Rattle.meaning.proofs.Maps.{false-true, ltb-no, ltb-yes}
+use Rattle.meaning.proofs.Lists.{has-in, getD-in}
+use Rattle.meaning.proofs.Inv.{Inv}
+use Rattle.meaning.proofs.Reading.{Sound, Trail, walked, only-is}
 use Rattle.meaning.proofs.Sealing.{idle}
-use Rattle.meaning.proofs.Whole.{has-in, in-has, ltb-no}
 use Rattle.meaning.proofs.Ranges.{Bounds, Ranged}
-use Rattle.meaning.proofs.Mid.{pigeon, at-work}
-use Rattle.meaning.proofs.Sure.{Always, sure, full}
+use Rattle.meaning.proofs.Sums.{pigeon}
+use Rattle.meaning.proofs.Mid.{at-work}
+use Rattle.meaning.proofs.Sure.{sure}
 use Rattle.meaning.proofs.Rooms.{Moment}
-
-pub record Stored (g : Graph) (s : Form) : Type 0 where
-  pub entry : (w b e : ℕ) → s .entry w b ≡ some e → (w < length (g .types)) × (b < g .blocks) × (e < s .next)
-  pub own : (w b e : ℕ) → s .own w b ≡ some e → (w < length (g .types)) × (b < g .blocks) × (e < s .next)
-  pub params : (b x : ℕ) → In x (s .params b) → (b < g .blocks) × (x < s .next)
-  pub waits : (b w x : ℕ) → PIn w x (s .pending b) → (w < length (g .types)) × (b < g .blocks) × (x < s .next)
-  pub args : (p i a : ℕ) → In a (s .args p i) → (p < g .blocks) × (i < length (g .dests p)) × (a < s .next)
-  pub preds : (b p : ℕ) → In p (g .preds b) → (b < g .blocks) × (p < g .blocks) × In b (g .dests p)
-  pub dests : (p b : ℕ) → In b (g .dests p) → (p < g .blocks) × (b < g .blocks)
-  pub branches : (p : ℕ) → g .branch p ≡ true → p < g .blocks
-  pub sealed : (b : ℕ) → g .sealed b ≡ true → b < g .blocks
-  pub settled : (b : ℕ) → g .sealed b ≡ true → s .pending b ≡ []
-  pub targets : (x : ℕ) → x < s .next → s .target x < s .next
-  pub unused : (x : ℕ) → s .next ≤ x → s .target x ≡ x
-  pub info : (x : ℕ) → x < s .next → (s .info x .home < g .blocks) × (s .info x .type < 6)
-  pub zeros : (z : ℕ × ℕ) → In z (s .zeros) → (z .0 ≤ g .call) × (z .1 < g .blocks)
-  pub placed : (b : ℕ) → In b (s .placed) → b < g .blocks
-  pub once : Nodup (s .placed)
-
--- so a list in which nothing stands is empty
-pub nil-of : {A : Type 0} (l : List A) → ((x : A) → In x l → ⊥) → l ≡ []
-nil-of [] n = refl
-nil-of (x ∷ l) n = absurd (n x (inl refl))
-
-getD-in : (l : List ℕ) (i : ℕ) → i < length l → In (getD l i 0) l
-getD-in [] i h = absurd (not-suc-le-zero h)
-getD-in (x ∷ l) zero h = inl refl
-getD-in (x ∷ l) (suc i) h = inr (getD-in l i (le-of-suc-le-suc h))
 
 pub stored-of : (g : Graph) → Sound g → Bounds g → (s : Form) (kp : ℕ → List ℕ) (op : ℕ → List (ℕ × ℕ)) → Inv g ⊥ s kp op → Ranged g s → Stored g s
 stored-of g G B s kp op h R = record {
-  entry = λ w b e q. let k = h .known w b e q in (k .0, k .1, R .entries w b e q);
-  own = R .owns;
-  params = λ b x i. let r = h .pars b x i in (subst (λ (j : ℕ). j < g .blocks) (r .home) (R .homes x (r .below)), r .below);
-  waits = λ b w x i. waits b w x i (g .sealed b) refl;
+  entry = λ w b e q. let k = h .known w b e q in (k .0, k .1, R .recorded .entries w b e q);
+  own = R .recorded .owns;
+  params = λ b x i. let r = h .listed .pars b x i in (subst (λ (j : ℕ). j < g .blocks) (r .home) (R .valued .homes x (r .below)), r .below);
+  waits = λ b w i. waits b w i (g .sealed b) refl;
   args = λ p i a j. args p i a j (ltb i (length (g .dests p))) refl;
   preds = λ b p i. (G .inside b p i, G .range b p i, G .names b p i);
   dests = λ p b i. (B .branches p (B .from p b i), B .aims p b i);
   branches = B .branches;
   sealed = B .shut;
   settled = R .still;
-  targets = R .closed;
-  unused = h .fresh;
-  info = λ x l. (R .homes x l, R .types x l);
-  zeros = R .zeros;
-  placed = R .placed;
-  once = R .once;
+  targets = R .valued .closed;
+  unused = h .aliased .fresh;
+  info = λ x l. (R .valued .homes x l, R .valued .types x l);
+  zeros = R .logs .noted;
+  placed = R .logs .within;
+  once = R .logs .once;
 }
   where
-    waits : (b w x : ℕ) → PIn w x (s .pending b) → (z : Bool) → g .sealed b ≡ z → (w < length (g .types)) × (b < g .blocks) × (x < s .next)
-    waits b w x i true e = absurd (subst (λ (l : List (ℕ × ℕ)). PIn w x l) (R .still b e) i)
-    waits b w x i false e =
-        let j : PIn w x (pending g s op b) = rw e i in
-        let q = h .pend w b x j .0 in
-        let k = h .known w b x q in
-        (k .0, k .1, R .entries w b x q)
+    waits : (b : ℕ) (w : ℕ × ℕ) → In w (s .pending b) → (z : Bool) → g .sealed b ≡ z → (w .0 < length (g .types)) × (b < g .blocks) × (w .1 < s .next)
+    waits b w i true e = absurd (rw (R .still b e) at i)
+    waits b w i false e =
+        let q = h .pend (w .0) b (w .1) (rw e i) .0 in
+        let k = h .known (w .0) b (w .1) q in
+        (k .0, k .1, R .recorded .entries (w .0) b (w .1) q)
 
     args : (p i a : ℕ) → In a (s .args p i) → (z : Bool) → ltb i (length (g .dests p)) ≡ z → (p < g .blocks) × (i < length (g .dests p)) × (a < s .next)
     args p i a j true e =
-        let lt = lib.Dec.ltb→lt i (length (g .dests p)) (true-T (ltb i (length (g .dests p))) e) in
-        (B .branches p (B .from p (getD (g .dests p) i 0) (getD-in (g .dests p) i lt)), lt, R .args p i a j)
+        let lt = ltb-yes i (length (g .dests p)) e in
+        (B .branches p (B .from p (getD (g .dests p) i 0) (getD-in (g .dests p) i lt)), lt, R .recorded .passed p i a j)
     args p i a j false e =
         let k = ltb-no i (length (g .dests p)) e in
-        absurd (subst (λ (l : List ℕ). In a l) (h .unfed p i (λ l _ _. omega (arith, l, k))) j)
+        absurd (subst (λ (l : List ℕ). In a l) (h .passed .unfed p i (λ l _ _. omega (arith, l, k))) j)
 
 pub stored : (cs : List Call) → Stored (session cs .graph) (session cs .form)
 stored cs =
     let h = sure cs in
     stored-of (session cs .graph) (h .whole .sound) (h .safe .bounds) (session cs .form) (h .whole .kp) idle (h .whole .inv) (h .safe .ranged)
 
-pub stored-now : (g : Graph) (G : Sound g) (B : Bounds g) (v : ℕ) (lv : v < length (g .types)) (rest : ℕ → List (ℕ × ℕ)) (k : ℕ) (c : Conf) → Moment g G B v lv rest k c → Stored g (c .form)
-stored-now g G B v lv rest k c m =
-    let h = m .now .0 in
-    stored-of g G B (c .form) (h .kp) (at-work g G B v lv 64 64 8192 4096 (le-trans (B .few) full) (le-trans (B .vars) full) (c .tasks) rest) (h .inv) (h .ranged)
+pub stored-now : (g : Graph) → Sound g → Bounds g → (v : ℕ) (rest : ℕ → List (ℕ × ℕ)) (k : ℕ) (c : Conf) → Moment g v rest k c → Stored g (c .form)
+stored-now g G B v rest k c m = let h = m .now .0 in stored-of g G B (c .form) (h .kp) (at-work v (c .tasks) rest) (h .inv) (h .ranged)
 
 -- A walk passes no block twice, so at most as many as there are.
 module _ (g : Graph) (s : Form) (v : ℕ) where
@@ -132,22 +101,16 @@ module _ (g : Graph) (s : Form) (v : ℕ) where
               all w c (inl q) = ap (λ (j : ℕ). has j seen) q ∙ e
               all w c (inr i) = or-right (eqb c b) (has c seen) (w .unseen c i)
 
-module _ (g : Graph) (G : Sound g) (v : ℕ) (lv : v < length (g .types)) (s : Form) where
+module _ (g : Graph) (G : Sound g) (v : ℕ) (s : Form) where
   -- the blocks passed are there, without a definition of v, and sealed
-  trail-low : (l : List ℕ) (b e : ℕ) → b < g .blocks → Trail g G v lv s b l e → (c : ℕ) → In c l → (c < g .blocks) × (def s v c ≡ none)
+  trail-low : (l : List ℕ) (b e : ℕ) → b < g .blocks → Trail g v s b l e → (c : ℕ) → In c l → (c < g .blocks) × (def s v c ≡ none)
   trail-low [] b e lb t c i = absurd i
   trail-low (d ∷ l) b e lb t c (inl q) = (subst (λ (j : ℕ). j < g .blocks) (t .0 ∙ sym q) lb, ap (def s v) q ∙ t .1)
-  trail-low (d ∷ l) b e lb t c (inr i) = trail-low l (t .2 .0) e (G .range d (t .2 .0) (one (g .sealed d) (g .preds d) (t .2 .0) (t .2 .1))) (t .2 .2) c i
-    where
-      one : (z : Bool) (ps : List ℕ) (p : ℕ) → Rattle.definition.specs.Read.only z ps ≡ some p → In p ps
-      one true [] p q = absurd (Rattle.meaning.proofs.Reading.some-none q refl)
-      one true (r ∷ []) p q = inl (sym (Rattle.meaning.proofs.Maps.some-inj q))
-      one true (r ∷ r′ ∷ ps) p q = absurd (Rattle.meaning.proofs.Reading.some-none q refl)
-      one false ps p q = absurd (Rattle.meaning.proofs.Reading.some-none q refl)
+  trail-low (d ∷ l) b e lb t c (inr i) = trail-low l (t .2 .0) e (G .range d (t .2 .0) (subst (λ (k : List ℕ). In (t .2 .0) k) (sym (only-is (g .sealed d) (g .preds d) (t .2 .0) (t .2 .1) .1)) (inl refl))) (t .2 .2) c i
 
   pub walk-room : (b : ℕ) → b < g .blocks → def s v b ≡ none → (n : ℕ) → (length (walk n g s v [] b .passed) ≤ g .blocks) × ((c : ℕ) → In c (walk n g s v [] b .passed) → (c < g .blocks) × (def s v c ≡ none)) × (walk n g s v [] b .end < g .blocks)
   walk-room b lb e n =
       let w = walk n g s v [] b in
-      let y = walked g G v lv n s [] b lb e in
+      let y = walked g G v n s [] b lb e in
       let low = trail-low (w .passed) b (w .end) lb (y .trail) in
       (pigeon some (g .blocks) (w .passed) (walk-fresh g s v n [] b .nodup) (λ c i. (c, low c i .0, refl)), low, y .low)

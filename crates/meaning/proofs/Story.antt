@@ -1,22 +1,20 @@
 -- What a block's own acts have to do with the form. Assumes nothing.
-use Prim.Native.Nat.{ℕ, zero, suc, _+_, _<_, _≤_}
+use Prim.Native.Nat.{ℕ, _<_, _≤_}
 use mathlib.Core.Path.{_≡_, refl, sym, ap, _∙_, subst, fun-ext}
 use mathlib.Core.Logic.{_≢_, _⊎_, inl, inr}
-use mathlib.Core.Bool.{Bool, true, false, cond, _&&_}
-use mathlib.Core.Option.{Option, none, some}
+use mathlib.Core.Option.{Option, some}
 use mathlib.Core.List.{List, [], _∷_, _++_, append-assoc}
-use lib.Dec.{eqb}
 use native.Mathlib.Omega.{arith}
 use native.Mathlib.Nat.{le-trans}
-use Rattle.definition.specs.Base.{put, put₂, orElse}
-use Rattle.definition.specs.Form.{Graph, Form, Info, Sort, made, param, nought, def}
+use Rattle.definition.specs.Base.{put, orElse}
+use Rattle.definition.specs.Form.{Graph, Form, Info, made}
 use Rattle.definition.specs.Read.{resolve}
-use Rattle.definition.specs.Session.{Call, Done, State}
+use Rattle.definition.specs.Session.{Done}
 use Rattle.meaning.specs.Path.{In, Act, makes, gives, uses, act, acts}
-use Rattle.meaning.proofs.Maps.{same?, put-same, put-other, put-at}
+use Rattle.meaning.proofs.Maps.{same?, put-other, put-at}
 use Rattle.meaning.proofs.Facts.{cur, Told}
 use Rattle.meaning.proofs.Inv.{Grow}
-use Rattle.meaning.proofs.Lists.{in-left, in-right, in-cases}
+use Rattle.meaning.proofs.Lists.{in-cases}
 
 -- as Told, but for what a definition takes
 abbrev pub Tells : Form → ℕ → (ℕ → Option ℕ) → List ℕ → List Act → Type 0

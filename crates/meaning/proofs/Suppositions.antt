@@ -16,7 +16,8 @@ use Rattle.meaning.proofs.Agree.{fork}
 use Rattle.meaning.proofs.Maps.{same?, eqb-eq, put-same, put-at, put-other}
 use Rattle.meaning.proofs.Facts.{cur}
 use Rattle.meaning.proofs.Story.{cur-append}
-use Rattle.meaning.proofs.Demand.{demand-3, always}
+use Rattle.meaning.proofs.Demand.{demand-3}
+use Rattle.meaning.proofs.Sure.{sure}
 use Rattle.meaning.proofs.Stored.{stored}
 use Rattle.meaning.proofs.Decide.{Decides, turned, itself, listed, denied, refuted, both, implied, each, each-below}
 
@@ -172,7 +173,7 @@ module _ (cs : List Call) where
       let before : ℕ → Option ℕ = cur (λ w. none) us in
       let k = stands (put v (some x) before) bs v x (put-same v (some x) before) in
       let recorded = ap (λ (l : List Act). cur (λ w. none) l v) q ∙ ap (λ (f : ℕ → Option ℕ). f v) (cur-append (λ w. none) us (gives v x ∷ bs)) ∙ k .1 in
-      stored cs .own v b (k .0) (always cs .own b v ∙ recorded) .1
+      stored cs .own v b (k .0) (sure cs .whole .own b v ∙ recorded) .1
 
   pub all-sealed-decided : Decides (all-sealed? t) (All-sealed t)
   all-sealed-decided = each-below (λ b. itself (t .graph .sealed b)) (t .graph .blocks)

@@ -1,5 +1,5 @@
 -- What holds after every list of calls, with no supposition. Assumes nothing.
-use Prim.Native.Nat.{ℕ, zero, suc, _+_, _*_, _<_, _≤_}
+use Prim.Native.Nat.{ℕ, zero, suc, _<_, _≤_}
 use mathlib.Core.Path.{_≡_, refl, sym, ap, _∙_, subst}
 use mathlib.Core.Logic.{_≢_, _⊎_, inl, inr}
 use mathlib.Core.Bool.{Bool, true, false, cond, not, _&&_, _||_}
@@ -9,122 +9,25 @@ use lib.Dec.{eqb, ltb, leb}
 use lib.ListN.{length, getD, length-append, List·getD-append}
 use native.Mathlib.Omega.{arith}
 use native.Mathlib.Nat.{le-trans, not-suc-le-zero}
-use Rattle.definition.specs.Base.{put, put₂, orElse, has, upFrom}
-use Rattle.definition.specs.Form.{Graph, Form, Info, Sort, made, param, nought, def, with-makes}
-use Rattle.definition.specs.Read.{type-of, write, make, place-block, read, depth}
-use Rattle.definition.specs.Session.{Call, Done, State, Reply, no, ok, refuse_when_else_, declared-anywhere, no-block, no-var, no-value, no-branch, declare-block, declare-var, make-value, define, use-var, new-branch, new-dest, add-pred, drop-pred, seal, seal-form, mark-sealed, seal-each, seal-all, define-answer, answered, reply, tick, after, step, run, empty, session}
+use Rattle.entity.specs.Types.{type-count}
+use Rattle.entity.specs.Limits.{limits}
+use Rattle.definition.specs.Base.{put, has, upFrom}
+use Rattle.definition.specs.Form.{Graph, Form, made, with-makes, with-blocks}
+use Rattle.definition.specs.Read.{type-of, write, make, place-block}
+use Rattle.definition.specs.Session.{Call, Done, State, Reply, no, ok, refuse_when_else_, declared-anywhere, no-block, no-var, no-value, no-branch}
+use Rattle.definition.specs.Session.{declare-block, declare-var, make-value, define, use-var, new-branch, new-dest, add-pred, drop-pred, seal, seal-form}
+use Rattle.definition.specs.Session.{mark-sealed, seal-each, seal-all, define-answer, answered, reply, tick, after, step, run, empty, session}
 use Rattle.meaning.specs.Path.{In}
-use Rattle.meaning.proofs.Maps.{same?, put-same, put-other, put-at, eqb-eq}
-use Rattle.meaning.proofs.Lists.{in-cases, put₂-at, put₂-other, here?}
-use Rattle.meaning.proofs.Inv.{Inv, in-one}
-use Rattle.meaning.proofs.Keeping.{false-true}
-use Rattle.meaning.proofs.Reading.{Sound, some-none}
+use Rattle.meaning.proofs.Maps.{same?, put-other, put-at, eqb-eq, false-true, some-none, ltb-no, leb-no, or-no, not-no, and-both, some-inj}
+use Rattle.meaning.proofs.Lists.{in-cases, in-one}
 use Rattle.meaning.proofs.Sealing.{idle}
-use Rattle.meaning.proofs.Machine.{Has, Somes}
-use Rattle.meaning.proofs.Room.{waiting}
-use Rattle.meaning.proofs.Whole.{Whole, Fine, fine, ltb-no, leb-no, or-no, not-no}
+use Rattle.meaning.proofs.Load.{Load, load-same}
+use Rattle.meaning.proofs.Whole.{Whole, Fine, fine}
 use Rattle.meaning.proofs.Demand.{Good, empty-good, after-good}
-use Rattle.meaning.proofs.Causing.{new-caused}
-use Rattle.meaning.proofs.Ranges.{Bounds, Ranged, placed-once, placed-in}
-use Rattle.meaning.proofs.Mid.{Load, lack-all, all-fewer, all-le, load-same, load-next}
-use Rattle.meaning.proofs.Rest.{Rest, read-rest, seal-rest, bounds-sealed, All-rest, each-rest, up-below}
-
--- the graph grows
-pub wider-ranged : (g g′ : Graph) (s : Form) → Ranged g s → g .blocks ≤ g′ .blocks → length (g .types) ≤ length (g′ .types) → g .call ≤ g′ .call → ((b : ℕ) → g′ .sealed b ≡ g .sealed b) → Ranged g′ s
-wider-ranged g g′ s h bl ty ca se = record {
-  closed = h .closed;
-  homes = λ x l. le-trans (h .homes x l) bl;
-  types = h .types;
-  entries = h .entries;
-  owns = λ w b e q. let k = h .owns w b e q in (le-trans (k .0) ty, le-trans (k .1) bl, k .2);
-  args = h .args;
-  still = λ b z. h .still b (sym (se b) ∙ z);
-  caused = record { param-of = λ x l q. let k = h .caused .param-of x l q in (k .0, le-trans (k .1) ty, k .2); zero-of = h .caused .zero-of };
-  zeros = λ z i. let k = h .zeros z i in (le-trans (k .0) ca, le-trans (k .1) bl);
-  once = h .once;
-  placed = λ b i. le-trans (h .placed b i) bl;
-}
-
-pub place-ranged : (g : Graph) (s : Form) (b : ℕ) → Ranged g s → b < g .blocks → Ranged g (place-block b s)
-place-ranged g s b h lb = record {
-  closed = h .closed;
-  homes = h .homes;
-  types = h .types;
-  entries = h .entries;
-  owns = h .owns;
-  args = h .args;
-  still = h .still;
-  caused = record { param-of = h .caused .param-of; zero-of = h .caused .zero-of };
-  zeros = h .zeros;
-  once = placed-once b (s .placed) (h .once);
-  placed = placed-in b (g .blocks) (s .placed) lb (h .placed);
-}
-
-made-param : _≡_ {A = Sort} made param → ⊥
-made-param q = let z : _≡_ {A = ℕ} 0 1 = cc in omega arith
-
-made-nought : _≡_ {A = Sort} made nought → ⊥
-made-nought q = let z : _≡_ {A = ℕ} 0 1 = cc in omega arith
-
-pub make-ranged : (g : Graph) (s : Form) (m y b : ℕ) → Ranged g s → b < g .blocks → y < 6 → s .target (s .next) ≡ s .next → Ranged g (make made y b (place-block b (with-makes s m)))
-make-ranged g s m y b h lb ly fresh = record {
-  closed = λ x l. closed x l (same? x (s .next));
-  homes = λ x l. homes x l (same? x (s .next));
-  types = λ x l. types x l (same? x (s .next));
-  entries = λ w c e q. omega (arith, h .entries w c e q);
-  owns = λ w c e q. let k = h .owns w c e q in (k .0, k .1, omega (arith, k .2));
-  args = λ p i a k. omega (arith, h .args p i a k);
-  still = h .still;
-  caused = new-caused g s (h .caused) (make made y b (place-block b (with-makes s m))) (record { sort = made; type = y; home = b }) refl refl (λ w c e q. q) (λ x n. refl) (λ q. absurd (made-param q)) (λ q. absurd (made-nought q));
-  zeros = h .zeros;
-  once = placed-once b (s .placed) (h .once);
-  placed = placed-in b (g .blocks) (s .placed) lb (h .placed);
-}
-  where
-    closed : (x : ℕ) → x < suc (s .next) → (x ≡ s .next) ⊎ (x ≢ s .next) → s .target x < suc (s .next)
-    closed x l (inl e) = subst (λ (j : ℕ). j < suc (s .next)) (sym (ap (s .target) e ∙ fresh)) (omega arith)
-    closed x l (inr n) = let k = h .closed x (omega arith) in omega (arith, k)
-
-    homes : (x : ℕ) → x < suc (s .next) → (x ≡ s .next) ⊎ (x ≢ s .next) → put (s .next) (record { sort = made; type = y; home = b }) (s .info) x .home < g .blocks
-    homes x l (inl e) = subst (λ (j : Info). j .home < g .blocks) (sym (put-at (s .next) (record { sort = made; type = y; home = b }) (s .info) x e)) lb
-    homes x l (inr n) = subst (λ (j : Info). j .home < g .blocks) (sym (put-other (s .next) (record { sort = made; type = y; home = b }) (s .info) x n)) (h .homes x (omega arith))
-
-    types : (x : ℕ) → x < suc (s .next) → (x ≡ s .next) ⊎ (x ≢ s .next) → put (s .next) (record { sort = made; type = y; home = b }) (s .info) x .type < 6
-    types x l (inl e) = subst (λ (j : Info). j .type < 6) (sym (put-at (s .next) (record { sort = made; type = y; home = b }) (s .info) x e)) ly
-    types x l (inr n) = subst (λ (j : Info). j .type < 6) (sym (put-other (s .next) (record { sort = made; type = y; home = b }) (s .info) x n)) (h .types x (omega arith))
-
-pub write-ranged : (g : Graph) (s : Form) (v b x : ℕ) → Ranged g s → v < length (g .types) → b < g .blocks → x < s .next → Ranged g (write v b x s)
-write-ranged g s v b x h lv lb lx = record {
-  closed = h .closed;
-  homes = h .homes;
-  types = h .types;
-  entries = h .entries;
-  owns = λ w c e q. owns w c e q (here? w v c b);
-  args = h .args;
-  still = h .still;
-  caused = record { param-of = h .caused .param-of; zero-of = h .caused .zero-of };
-  zeros = h .zeros;
-  once = h .once;
-  placed = h .placed;
-}
-  where
-    owns : (w c e : ℕ) → put₂ v b (some x) (s .own) w c ≡ some e → ((w ≡ v) × (c ≡ b)) ⊎ (w ≡ v → c ≡ b → ⊥) → (w < length (g .types)) × (c < g .blocks) × (e < s .next)
-    owns w c e q (inl k) = (
-      subst (λ (j : ℕ). j < length (g .types)) (sym (k .0)) lv,
-      subst (λ (j : ℕ). j < g .blocks) (sym (k .1)) lb,
-      subst (λ (j : ℕ). j < s .next) (Rattle.meaning.proofs.Maps.some-inj (sym (put₂-at v b (some x) (s .own) w c (k .0) (k .1)) ∙ q)) lx,
-    )
-    owns w c e q (inr n) = h .owns w c e (sym (put₂-other v b (some x) (s .own) w c n) ∙ q)
-
-pub write-somes : (s : Form) (v b x : ℕ) → Somes s (write v b x s)
-write-somes s v b x w c o = by (here? w v c b)
-  where
-    or-left : (a e : Option ℕ) (y : ℕ) → a ≡ some y → Has (orElse a e)
-    or-left a e y q = (y, ap (λ (k : Option ℕ). orElse k e) q)
-
-    by : ((w ≡ v) × (c ≡ b)) ⊎ (w ≡ v → c ≡ b → ⊥) → Has (orElse (put₂ v b (some x) (s .own) w c) (s .entry w c))
-    by (inl k) = or-left (put₂ v b (some x) (s .own) w c) (s .entry w c) x (put₂-at v b (some x) (s .own) w c (k .0) (k .1))
-    by (inr n) = (o .0, ap (λ (k : Option ℕ). orElse k (s .entry w c)) (put₂-other v b (some x) (s .own) w c n) ∙ o .1)
+use Rattle.meaning.proofs.Ranges.{Bounds, Ranged, write-ranged, make-ranged, wider-ranged, place-ranged}
+use Rattle.meaning.proofs.Lacking.{all-fewer, all-le, write-somes}
+use Rattle.meaning.proofs.Rest.{Rest, read-rest, seal-rest, bounds-sealed, each-rest, up-below}
+use Rattle.meaning.proofs.Sums.{sum-most}
 
 getD-last : (l : List ℕ) (y : ℕ) → getD (l ++ y ∷ []) (length l) 0 ≡ y
 getD-last [] y = refl
@@ -135,324 +38,306 @@ answered-last : (ds : List Done) (d : Done) (i x : ℕ) → answered (ds ++ d �
 answered-last [] d zero x q = by (eqb (d .asked .kind) 6 && eqb (d .code) 0) q
   where
     by : (z : Bool) → cond z (some (d .number)) none ≡ some x → (_≡_ {A = Option ℕ} none (some x)) ⊎ ((z ≡ true) × (d .number ≡ x))
-    by true e = inr (refl, Rattle.meaning.proofs.Maps.some-inj e)
+    by true e = inr (refl, some-inj e)
     by false e = inl e
 answered-last [] d (suc i) x q = inl q
 answered-last (e ∷ ds) d zero x q = inl q
 answered-last (e ∷ ds) d (suc i) x q = answered-last ds d i x q
 
-pub and-both : (a b : Bool) → a && b ≡ true → (a ≡ true) × (b ≡ true)
-and-both true b e = (refl, e)
-and-both false b e = absurd (false-true refl e)
+pub record Safe (g : Graph) (s : Form) : Type 0 where
+  pub bounds : Bounds g
+  pub ranged : Ranged g s
+  pub load : Load s 0
 
-module _ (N M A Z : ℕ) (eN : 64 ≤ N) (eM : 64 ≤ M) where
-  pub record Safe (g : Graph) (s : Form) : Type 0 where
-    pub bounds : Bounds g
-    pub ranged : Ranged g s
-    pub load : Load N M A Z s 0
+-- one call
+module _ (g : Graph) (s : Form) (ds : List Done) (w : Whole ⊥ g s ds) (h : Safe g s) (c : Call) where
+  rest : Rest g idle 0 s
+  rest = record { kp = w .kp; inv = w .inv; ranged = h .ranged; load = h .load }
 
-  -- one call
-  module _ (g : Graph) (s : Form) (ds : List Done) (w : Whole ⊥ g s ds) (h : Safe g s) (c : Call) where
-    rest : Rest N M A Z eN eM g idle 0 s
-    rest = record { kp = w .kp; inv = w .inv; ranged = h .ranged; load = h .load }
+  -- what a reply has to show: values stay, and a use answers one
+  pub record Kept (n : ℕ) (g′ : Graph) (s′ : Form) : Type 0 where
+    pub safe : Safe g′ s′
+    pub more : s .next ≤ s′ .next
+    pub answer : c .kind ≡ 6 → n < s′ .next
+    pub calls : g′ .call ≡ g .call
 
-    -- what a reply has to show: values stay, and a use answers one
-    pub record Kept (n : ℕ) (g′ : Graph) (s′ : Form) : Type 0 where
-      pub safe : Safe g′ s′
-      pub more : s .next ≤ s′ .next
-      pub answer : c .kind ≡ 6 → n < s′ .next
-      pub calls : g′ .call ≡ g .call
+  abbrev pub Keep : Reply → Type 0
+  Keep (no k) = Unit {0}
+  Keep (ok n g′ s′) = Kept n g′ s′
 
-    abbrev pub Keep : Reply → Type 0
-    Keep (no k) = Unit {0}
-    Keep (ok n g′ s′) = Kept n g′ s′
+  check : (k : ℕ) (b : Bool) (r : Reply) → (b ≡ false → Keep r) → Keep (refuse_when_else_ k b r)
+  check k true r f = tt
+  check k false r f = f refl
 
-    check : (k : ℕ) (b : Bool) (r : Reply) → (b ≡ false → Keep r) → Keep (refuse_when_else_ k b r)
-    check k true r f = tt
-    check k false r f = f refl
+  choose : (b : Bool) (r q : Reply) → (b ≡ true → Keep r) → (b ≡ false → Keep q) → Keep (cond b r q)
+  choose true r q f u = f refl
+  choose false r q f u = u refl
 
-    choose : (b : Bool) (r q : Reply) → (b ≡ true → Keep r) → (b ≡ false → Keep q) → Keep (cond b r q)
-    choose true r q f u = f refl
-    choose false r q f u = u refl
+  module _ (other : c .kind ≡ 6 → ⊥) where
+    nothing : (n : ℕ) → Keep (ok n g s)
+    nothing n = record { safe = h; more = omega arith; answer = λ e. absurd (other e); calls = refl }
 
-    module _ (other : c .kind ≡ 6 → ⊥) where
-      nothing : (n : ℕ) → Keep (ok n g s)
-      nothing n = record { safe = h; more = omega arith; answer = λ e. absurd (other e); calls = refl }
+    keep : (n : ℕ) (g′ : Graph) (s′ : Form) → g′ .call ≡ g .call → Bounds g′ → Ranged g′ s′ → Load s′ 0 → s .next ≤ s′ .next → Keep (ok n g′ s′)
+    keep n g′ s′ q b r l up = record { safe = record { bounds = b; ranged = r; load = l }; more = up; answer = λ e. absurd (other e); calls = q }
 
-      keep : (n : ℕ) (g′ : Graph) (s′ : Form) → g′ .call ≡ g .call → Bounds g′ → Ranged g′ s′ → Load N M A Z s′ 0 → s .next ≤ s′ .next → Keep (ok n g′ s′)
-      keep n g′ s′ q b r l up = record { safe = record { bounds = b; ranged = r; load = l }; more = up; answer = λ e. absurd (other e); calls = q }
+    keep-block : (x : ℕ) → Keep (declare-block g s x)
+    keep-block x = check 4 (leb (limits .blocks) x) _ λ e₄. check 5 (ltb (g .blocks) x) _ λ e₅. choose (ltb x (g .blocks)) _ _ (λ _. nothing x)
+        λ e. by (eqb x 0) (leb-no (limits .blocks) x e₄) (ltb-no (g .blocks) x e₅) (ltb-no x (g .blocks) e)
+      where
+        by : (z : Bool) → x < limits .blocks → x ≤ g .blocks → g .blocks ≤ x → Keep (ok x (record { call = g .call; blocks = suc x; types = g .types; branch = g .branch; dests = g .dests; preds = g .preds; sealed = g .sealed }) (cond z (place-block 0 s) s))
+        by z lo hi eq = on z
+          where
+            g′ : Graph
+            g′ = record { call = g .call; blocks = suc x; types = g .types; branch = g .branch; dests = g .dests; preds = g .preds; sealed = g .sealed }
 
-      keep-block : (x : ℕ) → Keep (declare-block g s x)
-      keep-block x = check 4 (leb 64 x) _ λ e₄. check 5 (ltb (g .blocks) x) _ λ e₅. choose (ltb x (g .blocks)) _ _ (λ _. nothing x)
-          λ e. by (eqb x 0) (leb-no 64 x e₄) (ltb-no (g .blocks) x e₅) (ltb-no x (g .blocks) e)
-        where
-          by : (z : Bool) → x < 64 → x ≤ g .blocks → g .blocks ≤ x → Keep (ok x (record { call = g .call; blocks = suc x; types = g .types; branch = g .branch; dests = g .dests; preds = g .preds; sealed = g .sealed }) (cond z (place-block 0 s) s))
-          by z lo hi eq = on z
-            where
-              g′ : Graph
-              g′ = record { call = g .call; blocks = suc x; types = g .types; branch = g .branch; dests = g .dests; preds = g .preds; sealed = g .sealed }
+            up : g .blocks ≤ suc x
+            up = omega (arith, hi, eq)
 
-              up : g .blocks ≤ suc x
-              up = omega (arith, hi, eq)
+            b′ : Bounds (record { call = g .call; blocks = suc x; types = g .types; branch = g .branch; dests = g .dests; preds = g .preds; sealed = g .sealed })
+            b′ = record {
+              few = omega (arith, lo);
+              vars = h .bounds .vars;
+              typed = h .bounds .typed;
+              dests = h .bounds .dests;
+              aims = λ p b i. le-trans (h .bounds .aims p b i) up;
+              from = h .bounds .from;
+              branches = λ p e. le-trans (h .bounds .branches p e) up;
+              shut = λ b e. le-trans (h .bounds .shut b e) up;
+            }
 
-              b′ : Bounds (record { call = g .call; blocks = suc x; types = g .types; branch = g .branch; dests = g .dests; preds = g .preds; sealed = g .sealed })
-              b′ = record {
-                few = omega (arith, lo);
-                vars = h .bounds .vars;
-                typed = h .bounds .typed;
-                eight = h .bounds .eight;
-                aims = λ p b i. le-trans (h .bounds .aims p b i) up;
-                from = h .bounds .from;
-                branches = λ p e. le-trans (h .bounds .branches p e) up;
-                shut = λ b e. le-trans (h .bounds .shut b e) up;
-              }
+            r′ : Ranged (record { call = g .call; blocks = suc x; types = g .types; branch = g .branch; dests = g .dests; preds = g .preds; sealed = g .sealed }) s
+            r′ = wider-ranged g s (h .ranged) (with-blocks g (suc x)) up (omega arith) (omega arith) (λ b. refl)
 
-              r′ : Ranged (record { call = g .call; blocks = suc x; types = g .types; branch = g .branch; dests = g .dests; preds = g .preds; sealed = g .sealed }) s
-              r′ = wider-ranged g (record { call = g .call; blocks = suc x; types = g .types; branch = g .branch; dests = g .dests; preds = g .preds; sealed = g .sealed }) s (h .ranged) up (omega arith) (omega arith) (λ b. refl)
+            on : (z : Bool) → Keep (ok x (record { call = g .call; blocks = suc x; types = g .types; branch = g .branch; dests = g .dests; preds = g .preds; sealed = g .sealed }) (cond z (place-block 0 s) s))
+            on true = keep x _ (place-block 0 s) refl b′ (place-ranged _ s r′ 0 (omega arith)) (load-same s (place-block 0 s) (λ u d o. o) refl 0 refl refl refl (h .load)) (omega arith)
+            on false = keep x _ s refl b′ r′ (h .load) (omega arith)
 
-              on : (z : Bool) → Keep (ok x (record { call = g .call; blocks = suc x; types = g .types; branch = g .branch; dests = g .dests; preds = g .preds; sealed = g .sealed }) (cond z (place-block 0 s) s))
-              on true = keep x _ (place-block 0 s) refl b′ (place-ranged _ s 0 r′ (omega arith)) (load-same N M A Z s (place-block 0 s) 0 (λ u d o. o) refl refl refl refl (h .load)) (omega arith)
-              on false = keep x _ s refl b′ r′ (h .load) (omega arith)
+    keep-var : (x y : ℕ) → Keep (declare-var g s x y)
+    keep-var x y = check 4 (leb (limits .variables) x) _ λ e₄. check 5 (ltb (length (g .types)) x) _ λ e₅. check 6 (leb type-count y) _ λ e₆. check 7 (ltb x (length (g .types)) && not (eqb y (type-of g x))) _ λ _.
+        choose (ltb x (length (g .types))) _ _ (λ _. nothing x) λ e. new (leb-no (limits .variables) x e₄) (leb-no type-count y e₆) (ltb-no x (length (g .types)) e)
+      where
+        new : x < limits .variables → y < type-count → length (g .types) ≤ x → Keep (ok x (record { call = g .call; blocks = g .blocks; types = g .types ++ y ∷ []; branch = g .branch; dests = g .dests; preds = g .preds; sealed = g .sealed }) s)
+        new lo ly hi = keep x _ s refl
+            (record {
+              few = h .bounds .few;
+              vars = omega (arith, lo, hi, length-append (g .types) (y ∷ []));
+              typed = λ u l. typed u l (same? u (length (g .types)));
+              dests = h .bounds .dests;
+              aims = h .bounds .aims;
+              from = h .bounds .from;
+              branches = h .bounds .branches;
+              shut = h .bounds .shut;
+            })
+            (wider-ranged g s (h .ranged) _ (omega arith) (omega (arith, length-append (g .types) (y ∷ []))) (omega arith) (λ b. refl)) (h .load) (omega arith)
+          where
+            typed : (u : ℕ) → u < length (g .types ++ y ∷ []) → (u ≡ length (g .types)) ⊎ (u ≢ length (g .types)) → getD (g .types ++ y ∷ []) u 0 < type-count
+            typed u l (inl e) = subst (λ (j : ℕ). j < type-count) (sym (ap (λ (j : ℕ). getD (g .types ++ y ∷ []) j 0) e ∙ getD-last (g .types) y)) ly
+            typed u l (inr n) =
+                let lu : u < length (g .types) = omega (arith, l, length-append (g .types) (y ∷ []), n) in
+                subst (λ (j : ℕ). j < type-count) (sym (List·getD-append (g .types) (y ∷ []) 0 u lu)) (h .bounds .typed u lu)
 
-      keep-var : (x y : ℕ) → Keep (declare-var g s x y)
-      keep-var x y = check 4 (leb 64 x) _ λ e₄. check 5 (ltb (length (g .types)) x) _ λ e₅. check 6 (leb 6 y) _ λ e₆. check 7 (ltb x (length (g .types)) && not (eqb y (type-of g x))) _ λ _.
-          choose (ltb x (length (g .types))) _ _ (λ _. nothing x) λ e. new (leb-no 64 x e₄) (leb-no 6 y e₆) (ltb-no x (length (g .types)) e)
-        where
-          new : x < 64 → y < 6 → length (g .types) ≤ x → Keep (ok x (record { call = g .call; blocks = g .blocks; types = g .types ++ y ∷ []; branch = g .branch; dests = g .dests; preds = g .preds; sealed = g .sealed }) s)
-          new lo ly hi = keep x _ s refl
-              (record {
-                few = h .bounds .few;
-                vars = omega (arith, lo, hi, length-append (g .types) (y ∷ []));
-                typed = λ u l. typed u l (same? u (length (g .types)));
-                eight = h .bounds .eight;
-                aims = h .bounds .aims;
-                from = h .bounds .from;
-                branches = h .bounds .branches;
-                shut = h .bounds .shut;
-              })
-              (wider-ranged g _ s (h .ranged) (omega arith) (omega (arith, length-append (g .types) (y ∷ []))) (omega arith) (λ b. refl)) (h .load) (omega arith)
-            where
-              typed : (u : ℕ) → u < length (g .types ++ y ∷ []) → (u ≡ length (g .types)) ⊎ (u ≢ length (g .types)) → getD (g .types ++ y ∷ []) u 0 < 6
-              typed u l (inl e) = subst (λ (j : ℕ). j < 6) (sym (ap (λ (j : ℕ). getD (g .types ++ y ∷ []) j 0) e ∙ getD-last (g .types) y)) ly
-              typed u l (inr n) =
-                  let lu : u < length (g .types) = omega (arith, l, length-append (g .types) (y ∷ []), n) in
-                  subst (λ (j : ℕ). j < 6) (sym (List·getD-append (g .types) (y ∷ []) 0 u lu)) (h .bounds .typed u lu)
+    keep-make : (x y : ℕ) → Keep (make-value g s x y)
+    keep-make x y = check 6 (no-block g s x || leb type-count y) _ λ e₆. check 9 (g .branch x) _ λ _. check 4 (leb (limits .made) (s .makes)) _ λ e₄.
+        let o = or-no (no-block g s x) (leb type-count y) e₆ in
+        let t = make made y x (place-block x (with-makes s (suc (s .makes)))) in
+        let f = all-fewer s t (λ u d k. k) in
+        keep (s .next) g t refl (h .bounds) (make-ranged g s (h .ranged) (suc (s .makes)) y x (leb-no (g .blocks) x (o .0)) (leb-no type-count y (o .1)) (w .inv .aliased .fresh (s .next) (omega arith)))
+        (record { values = omega (arith, h .load .values, f); zeros = omega (arith, h .load .zeros, f); made = leb-no (limits .made) (s .makes) e₄ }) (omega arith)
 
-      keep-make : (x y : ℕ) → Keep (make-value g s x y)
-      keep-make x y = check 6 (no-block g s x || leb 6 y) _ λ e₆. check 9 (g .branch x) _ λ _. check 4 (leb 4096 (s .makes)) _ λ e₄.
-          let o = or-no (no-block g s x) (leb 6 y) e₆ in
-          let t = make made y x (place-block x (with-makes s (suc (s .makes)))) in
-          let f = all-fewer N s t (λ u d k. k) M in
-          keep (s .next) g t refl (h .bounds) (make-ranged g s (suc (s .makes)) y x (h .ranged) (leb-no (g .blocks) x (o .0)) (leb-no 6 y (o .1)) (w .inv .fresh (s .next) (omega arith)))
-          (record { values = omega (arith, h .load .values, f); zeros = omega (arith, h .load .zeros, f); made = leb-no 4096 (s .makes) e₄ }) (omega arith)
+    keep-define : (v x b : ℕ) → Keep (define g s v x b)
+    keep-define v x b = check 6 (no-var g s v || no-value g s x || no-block g s b) _ λ e₆. check 7 (not (eqb (s .info x .type) (type-of g v))) _ λ _.
+        let p = or-no (no-var g s v || no-value g s x) (no-block g s b) e₆ in
+        let o = or-no (no-var g s v) (no-value g s x) (p .0) in
+        keep x g (write v b x s) refl (h .bounds) (write-ranged g s (h .ranged) v b x (leb-no (length (g .types)) v (o .0)) (leb-no (g .blocks) b (p .1)) (leb-no (s .next) x (o .1)))
+        (load-same s (write v b x s) (write-somes s v b x) refl 0 refl refl refl (h .load)) (omega arith)
 
-      keep-define : (v x b : ℕ) → Keep (define g s v x b)
-      keep-define v x b = check 6 (no-var g s v || no-value g s x || no-block g s b) _ λ e₆. check 7 (not (eqb (s .info x .type) (type-of g v))) _ λ _.
-          let p = or-no (no-var g s v || no-value g s x) (no-block g s b) e₆ in
-          let o = or-no (no-var g s v) (no-value g s x) (p .0) in
-          keep x g (write v b x s) refl (h .bounds) (write-ranged g s v b x (h .ranged) (leb-no (length (g .types)) v (o .0)) (leb-no (g .blocks) b (p .1)) (leb-no (s .next) x (o .1)))
-          (load-same N M A Z s (write v b x s) 0 (write-somes s v b x) refl refl refl refl (h .load)) (omega arith)
+    keep-define-at : (v b : ℕ) (o : Option ℕ) → Keep (define-answer g s v b o)
+    keep-define-at v b none = tt
+    keep-define-at v b (some x) = keep-define v x b
 
-      keep-define-at : (v b : ℕ) (o : Option ℕ) → Keep (define-answer g s v b o)
-      keep-define-at v b none = tt
-      keep-define-at v b (some x) = keep-define v x b
+    keep-branch : (b : ℕ) → Keep (new-branch g s b)
+    keep-branch b = check 6 (no-block g s b) _ λ e₆. check 9 (g .branch b) _ λ _.
+        keep b _ (place-block b s) refl
+        (record {
+          few = h .bounds .few;
+          vars = h .bounds .vars;
+          typed = h .bounds .typed;
+          dests = h .bounds .dests;
+          aims = h .bounds .aims;
+          from = λ p d i. from p d i (same? p b);
+          branches = λ p e. branches p e (leb-no (g .blocks) b e₆) (same? p b);
+          shut = h .bounds .shut;
+        })
+        (wider-ranged g (place-block b s) (place-ranged g s (h .ranged) b (leb-no (g .blocks) b e₆)) _ (omega arith) (omega arith) (omega arith) (λ d. refl)) (load-same s (place-block b s) (λ u d o. o) refl 0 refl refl refl (h .load)) (omega arith)
+      where
+        from : (p d : ℕ) → In d (g .dests p) → (p ≡ b) ⊎ (p ≢ b) → put b true (g .branch) p ≡ true
+        from p d i (inl q) = put-at b true (g .branch) p q
+        from p d i (inr n) = put-other b true (g .branch) p n ∙ h .bounds .from p d i
 
-      keep-branch : (b : ℕ) → Keep (new-branch g s b)
-      keep-branch b = check 6 (no-block g s b) _ λ e₆. check 9 (g .branch b) _ λ _.
-          keep b _ (place-block b s) refl
-          (record {
-            few = h .bounds .few;
-            vars = h .bounds .vars;
-            typed = h .bounds .typed;
-            eight = h .bounds .eight;
-            aims = h .bounds .aims;
-            from = λ p d i. from p d i (same? p b);
-            branches = λ p e. branches p e (leb-no (g .blocks) b e₆) (same? p b);
-            shut = h .bounds .shut;
-          })
-          (wider-ranged g _ (place-block b s) (place-ranged g s b (h .ranged) (leb-no (g .blocks) b e₆)) (omega arith) (omega arith) (omega arith) (λ d. refl)) (load-same N M A Z s (place-block b s) 0 (λ u d o. o) refl refl refl refl (h .load)) (omega arith)
-        where
-          from : (p d : ℕ) → In d (g .dests p) → (p ≡ b) ⊎ (p ≢ b) → put b true (g .branch) p ≡ true
-          from p d i (inl q) = put-at b true (g .branch) p q
-          from p d i (inr n) = put-other b true (g .branch) p n ∙ h .bounds .from p d i
+        branches : (p : ℕ) → put b true (g .branch) p ≡ true → b < g .blocks → (p ≡ b) ⊎ (p ≢ b) → p < g .blocks
+        branches p e lb (inl q) = subst (λ (j : ℕ). j < g .blocks) (sym q) lb
+        branches p e lb (inr n) = h .bounds .branches p (sym (put-other b true (g .branch) p n) ∙ e)
 
-          branches : (p : ℕ) → put b true (g .branch) p ≡ true → b < g .blocks → (p ≡ b) ⊎ (p ≢ b) → p < g .blocks
-          branches p e lb (inl q) = subst (λ (j : ℕ). j < g .blocks) (sym q) lb
-          branches p e lb (inr n) = h .bounds .branches p (sym (put-other b true (g .branch) p n) ∙ e)
+    keep-dest : (p b : ℕ) → Keep (new-dest g s p b)
+    keep-dest p b = check 6 (no-branch g s p || no-block g s b) _ λ e₆. check 11 (declared-anywhere g p) _ λ _. check 10 (leb (limits .dests) (length (g .dests p))) _ λ e₁₀.
+        let o = or-no (no-branch g s p) (no-block g s b) e₆ in
+        let br = not-no (g .branch p) (or-no (no-block g s p) (not (g .branch p)) (o .0) .1) in
+        keep (length (g .dests p)) _ s refl
+        (record {
+          few = h .bounds .few;
+          vars = h .bounds .vars;
+          typed = h .bounds .typed;
+          dests = λ q. dests q (leb-no (limits .dests) (length (g .dests p)) e₁₀) (same? q p);
+          aims = λ q d i. aims q d (leb-no (g .blocks) b (o .1)) (same? q p) i;
+          from = λ q d i. from q d br (same? q p) i;
+          branches = h .bounds .branches;
+          shut = h .bounds .shut;
+        })
+        (wider-ranged g s (h .ranged) _ (omega arith) (omega arith) (omega arith) (λ d. refl)) (h .load) (omega arith)
+      where
+        dests : (q : ℕ) → length (g .dests p) < limits .dests → (q ≡ p) ⊎ (q ≢ p) → length (put p (g .dests p ++ b ∷ []) (g .dests) q) ≤ limits .dests
+        dests q l (inl e) = subst (λ (r : List ℕ). length r ≤ limits .dests) (sym (put-at p (g .dests p ++ b ∷ []) (g .dests) q e)) (omega (arith, l, length-append (g .dests p) (b ∷ [])))
+        dests q l (inr n) = subst (λ (r : List ℕ). length r ≤ limits .dests) (sym (put-other p (g .dests p ++ b ∷ []) (g .dests) q n)) (h .bounds .dests q)
 
-      keep-dest : (p b : ℕ) → Keep (new-dest g s p b)
-      keep-dest p b = check 6 (no-branch g s p || no-block g s b) _ λ e₆. check 11 (declared-anywhere g p) _ λ _. check 10 (leb 8 (length (g .dests p))) _ λ e₁₀.
-          let o = or-no (no-branch g s p) (no-block g s b) e₆ in
-          let br = not-no (g .branch p) (or-no (no-block g s p) (not (g .branch p)) (o .0) .1) in
-          keep (length (g .dests p)) _ s refl
-          (record {
-            few = h .bounds .few;
-            vars = h .bounds .vars;
-            typed = h .bounds .typed;
-            eight = λ q. eight q (leb-no 8 (length (g .dests p)) e₁₀) (same? q p);
-            aims = λ q d i. aims q d (leb-no (g .blocks) b (o .1)) (same? q p) i;
-            from = λ q d i. from q d br (same? q p) i;
-            branches = h .bounds .branches;
-            shut = h .bounds .shut;
-          })
-          (wider-ranged g _ s (h .ranged) (omega arith) (omega arith) (omega arith) (λ d. refl)) (h .load) (omega arith)
-        where
-          eight : (q : ℕ) → length (g .dests p) < 8 → (q ≡ p) ⊎ (q ≢ p) → length (put p (g .dests p ++ b ∷ []) (g .dests) q) ≤ 8
-          eight q l (inl e) = subst (λ (r : List ℕ). length r ≤ 8) (sym (put-at p (g .dests p ++ b ∷ []) (g .dests) q e)) (omega (arith, l, length-append (g .dests p) (b ∷ [])))
-          eight q l (inr n) = subst (λ (r : List ℕ). length r ≤ 8) (sym (put-other p (g .dests p ++ b ∷ []) (g .dests) q n)) (h .bounds .eight q)
+        aims : (q d : ℕ) → b < g .blocks → (q ≡ p) ⊎ (q ≢ p) → In d (put p (g .dests p ++ b ∷ []) (g .dests) q) → d < g .blocks
+        aims q d lb (inl e) i = on (in-cases d (g .dests p) (b ∷ []) (subst (λ (r : List ℕ). In d r) (put-at p (g .dests p ++ b ∷ []) (g .dests) q e) i))
+          where
+            on : In d (g .dests p) ⊎ In d (b ∷ []) → d < g .blocks
+            on (inl j) = h .bounds .aims p d j
+            on (inr j) = subst (λ (k : ℕ). k < g .blocks) (sym (in-one d b j)) lb
+        aims q d lb (inr n) i = h .bounds .aims q d (subst (λ (r : List ℕ). In d r) (put-other p (g .dests p ++ b ∷ []) (g .dests) q n) i)
 
-          aims : (q d : ℕ) → b < g .blocks → (q ≡ p) ⊎ (q ≢ p) → In d (put p (g .dests p ++ b ∷ []) (g .dests) q) → d < g .blocks
-          aims q d lb (inl e) i = on (in-cases d (g .dests p) (b ∷ []) (subst (λ (r : List ℕ). In d r) (put-at p (g .dests p ++ b ∷ []) (g .dests) q e) i))
-            where
-              on : In d (g .dests p) ⊎ In d (b ∷ []) → d < g .blocks
-              on (inl j) = h .bounds .aims p d j
-              on (inr j) = subst (λ (k : ℕ). k < g .blocks) (sym (in-one d b j)) lb
-          aims q d lb (inr n) i = h .bounds .aims q d (subst (λ (r : List ℕ). In d r) (put-other p (g .dests p ++ b ∷ []) (g .dests) q n) i)
+        from : (q d : ℕ) → g .branch p ≡ true → (q ≡ p) ⊎ (q ≢ p) → In d (put p (g .dests p ++ b ∷ []) (g .dests) q) → g .branch q ≡ true
+        from q d br (inl e) i = ap (g .branch) e ∙ br
+        from q d br (inr n) i = h .bounds .from q d (subst (λ (r : List ℕ). In d r) (put-other p (g .dests p ++ b ∷ []) (g .dests) q n) i)
 
-          from : (q d : ℕ) → g .branch p ≡ true → (q ≡ p) ⊎ (q ≢ p) → In d (put p (g .dests p ++ b ∷ []) (g .dests) q) → g .branch q ≡ true
-          from q d br (inl e) i = ap (g .branch) e ∙ br
-          from q d br (inr n) i = h .bounds .from q d (subst (λ (r : List ℕ). In d r) (put-other p (g .dests p ++ b ∷ []) (g .dests) q n) i)
+    -- other predecessors
+    keep-joined : (n b : ℕ) (ps : List ℕ) → Keep (ok n (record { call = g .call; blocks = g .blocks; types = g .types; branch = g .branch; dests = g .dests; preds = put b ps (g .preds); sealed = g .sealed }) s)
+    keep-joined n b ps = keep n _ s refl
+        (record { few = h .bounds .few; vars = h .bounds .vars; typed = h .bounds .typed; dests = h .bounds .dests; aims = h .bounds .aims; from = h .bounds .from; branches = h .bounds .branches; shut = h .bounds .shut })
+        (wider-ranged g s (h .ranged) _ (omega arith) (omega arith) (omega arith) (λ d. refl)) (h .load) (omega arith)
 
-      -- other predecessors
-      keep-joined : (n b : ℕ) (ps : List ℕ) → Keep (ok n (record { call = g .call; blocks = g .blocks; types = g .types; branch = g .branch; dests = g .dests; preds = put b ps (g .preds); sealed = g .sealed }) s)
-      keep-joined n b ps = keep n _ s refl
-          (record { few = h .bounds .few; vars = h .bounds .vars; typed = h .bounds .typed; eight = h .bounds .eight; aims = h .bounds .aims; from = h .bounds .from; branches = h .bounds .branches; shut = h .bounds .shut })
-          (wider-ranged g _ s (h .ranged) (omega arith) (omega arith) (omega arith) (λ d. refl)) (h .load) (omega arith)
+    keep-pred : (b p : ℕ) → Keep (add-pred g s b p)
+    keep-pred b p = check 6 (no-block g s b || no-branch g s p) _ λ _. check 8 (g .sealed b) _ λ _. check 13 (not (has b (g .dests p))) _ λ _. check 12 (has p (g .preds b)) _ λ _. keep-joined _ b _
 
-      keep-pred : (b p : ℕ) → Keep (add-pred g s b p)
-      keep-pred b p = check 6 (no-block g s b || no-branch g s p) _ λ _. check 8 (g .sealed b) _ λ _. check 13 (not (has b (g .dests p))) _ λ _. check 12 (has p (g .preds b)) _ λ _. keep-joined _ b _
+    keep-drop : (b p : ℕ) → Keep (drop-pred g s b p)
+    keep-drop b p = check 6 (no-block g s b || no-branch g s p) _ λ _. check 8 (g .sealed b) _ λ _. check 13 (not (has p (g .preds b))) _ λ _. keep-joined _ b _
 
-      keep-drop : (b p : ℕ) → Keep (drop-pred g s b p)
-      keep-drop b p = check 6 (no-block g s b || no-branch g s p) _ λ _. check 8 (g .sealed b) _ λ _. check 13 (not (has p (g .preds b))) _ λ _. keep-joined _ b _
+    keep-ask : (b n : ℕ) → Keep (refuse_when_else_ 6 (no-block g s b) (ok n g s))
+    keep-ask b n = check 6 (no-block g s b) _ λ _. nothing n
 
-      keep-ask : (b n : ℕ) → Keep (refuse_when_else_ 6 (no-block g s b) (ok n g s))
-      keep-ask b n = check 6 (no-block g s b) _ λ _. nothing n
+    keep-seal : (b : ℕ) → Keep (seal g s b)
+    keep-seal b = check 6 (no-block g s b) _ λ e₆. check 8 (g .sealed b) _ λ e₈.
+        let lb = leb-no (g .blocks) b e₆ in
+        let r = seal-rest g (w .sound) (h .bounds) b lb e₈ s rest in
+        keep _ (mark-sealed g b) (seal-form g s b) refl (bounds-sealed g (w .sound) (h .bounds) b lb e₈) (r .0 .ranged) (r .0 .load) (r .1)
 
-      keep-seal : (b : ℕ) → Keep (seal g s b)
-      keep-seal b = check 6 (no-block g s b) _ λ e₆. check 8 (g .sealed b) _ λ e₈.
-          let lb = leb-no (g .blocks) b e₆ in
-          let r = seal-rest N M A Z eN eM g (w .sound) (h .bounds) b lb e₈ s rest in
-          keep _ (mark-sealed g b) (seal-form g s b) refl (bounds-sealed N M A Z eN eM g (w .sound) (h .bounds) b lb e₈) (r .0 .ranged) (r .0 .load) (r .1)
+    keep-all : Keep (seal-all g s)
+    keep-all =
+        let r = each-rest (upFrom 0 (g .blocks)) g s (λ b i. omega (arith, up-below (g .blocks) 0 b i)) (w .sound) (h .bounds) rest in
+        keep _ (seal-each (upFrom 0 (g .blocks)) g s .0) (seal-each (upFrom 0 (g .blocks)) g s .1) (r .calls) (r .bounds) (r .rest .ranged) (r .rest .load) (r .more)
 
-      keep-all : Keep (seal-all g s)
-      keep-all =
-          let r = each-rest N M A Z eN eM (upFrom 0 (g .blocks)) g s (λ b i. omega (arith, up-below (g .blocks) 0 b i)) (w .sound) (h .bounds) rest in
-          keep _ (seal-each (upFrom 0 (g .blocks)) g s .0) (seal-each (upFrom 0 (g .blocks)) g s .1) (r .calls) (r .bounds) (r .rest .ranged) (r .rest .load) (r .more)
+  keep-use : (v b : ℕ) → Keep (use-var g s v b)
+  keep-use v b = check 6 (no-var g s v || no-block g s b) _ λ e.
+      let o = or-no (no-var g s v) (no-block g s b) e in
+      let lv = leb-no (length (g .types)) v (o .0) in
+      let r = read-rest g (w .sound) (h .bounds) v lv b s (leb-no (g .blocks) b (o .1)) rest in
+      record { safe = record { bounds = h .bounds; ranged = r .0 .ranged; load = r .0 .load }; more = r .2; answer = λ _. r .1; calls = refl }
 
-    keep-use : (v b : ℕ) → Keep (use-var g s v b)
-    keep-use v b = check 6 (no-var g s v || no-block g s b) _ λ e.
-        let o = or-no (no-var g s v) (no-block g s b) e in
-        let lv = leb-no (length (g .types)) v (o .0) in
-        let r = read-rest N M A Z eN eM g (w .sound) (h .bounds) v lv b s (leb-no (g .blocks) b (o .1)) rest in
-        record { safe = record { bounds = h .bounds; ranged = r .0 .ranged; load = r .0 .load }; more = r .2; answer = λ _. r .1; calls = refl }
+  -- the fourteen kinds
+  pub kept : (k : ℕ) → c .kind ≡ k → Keep (reply g s ds (c .x) (c .y) (c .z) k)
+  kept zero e = tt
+  kept (suc zero) e = keep-block (λ q. omega (arith, e, q)) (c .x)
+  kept (suc (suc zero)) e = keep-var (λ q. omega (arith, e, q)) (c .x) (c .y)
+  kept (suc (suc (suc zero))) e = keep-make (λ q. omega (arith, e, q)) (c .x) (c .y)
+  kept (suc (suc (suc (suc zero)))) e = keep-define (λ q. omega (arith, e, q)) (c .x) (c .y) (c .z)
+  kept (suc (suc (suc (suc (suc zero))))) e = keep-define-at (λ q. omega (arith, e, q)) (c .x) (c .z) (answered ds (c .y))
+  kept (suc (suc (suc (suc (suc (suc zero)))))) e = keep-use (c .x) (c .y)
+  kept (suc (suc (suc (suc (suc (suc (suc zero))))))) e = keep-branch (λ q. omega (arith, e, q)) (c .x)
+  kept (suc (suc (suc (suc (suc (suc (suc (suc zero)))))))) e = keep-dest (λ q. omega (arith, e, q)) (c .x) (c .y)
+  kept (suc (suc (suc (suc (suc (suc (suc (suc (suc zero))))))))) e = keep-pred (λ q. omega (arith, e, q)) (c .x) (c .y)
+  kept (suc (suc (suc (suc (suc (suc (suc (suc (suc (suc zero)))))))))) e = keep-drop (λ q. omega (arith, e, q)) (c .x) (c .y)
+  kept (suc (suc (suc (suc (suc (suc (suc (suc (suc (suc (suc zero))))))))))) e = keep-seal (λ q. omega (arith, e, q)) (c .x)
+  kept (suc (suc (suc (suc (suc (suc (suc (suc (suc (suc (suc (suc zero)))))))))))) e = keep-all (λ q. omega (arith, e, q))
+  kept (suc (suc (suc (suc (suc (suc (suc (suc (suc (suc (suc (suc (suc zero))))))))))))) e = keep-ask (λ q. omega (arith, e, q)) (c .x) _
+  kept (suc (suc (suc (suc (suc (suc (suc (suc (suc (suc (suc (suc (suc (suc zero)))))))))))))) e = keep-ask (λ q. omega (arith, e, q)) (c .x) _
+  kept (suc (suc (suc (suc (suc (suc (suc (suc (suc (suc (suc (suc (suc (suc (suc k))))))))))))))) e = tt
 
-    -- the fourteen kinds
-    pub kept : (k : ℕ) → c .kind ≡ k → Keep (reply g s ds (c .x) (c .y) (c .z) k)
-    kept zero e = tt
-    kept (suc zero) e = keep-block (λ q. omega (arith, e, q)) (c .x)
-    kept (suc (suc zero)) e = keep-var (λ q. omega (arith, e, q)) (c .x) (c .y)
-    kept (suc (suc (suc zero))) e = keep-make (λ q. omega (arith, e, q)) (c .x) (c .y)
-    kept (suc (suc (suc (suc zero)))) e = keep-define (λ q. omega (arith, e, q)) (c .x) (c .y) (c .z)
-    kept (suc (suc (suc (suc (suc zero))))) e = keep-define-at (λ q. omega (arith, e, q)) (c .x) (c .z) (answered ds (c .y))
-    kept (suc (suc (suc (suc (suc (suc zero)))))) e = keep-use (c .x) (c .y)
-    kept (suc (suc (suc (suc (suc (suc (suc zero))))))) e = keep-branch (λ q. omega (arith, e, q)) (c .x)
-    kept (suc (suc (suc (suc (suc (suc (suc (suc zero)))))))) e = keep-dest (λ q. omega (arith, e, q)) (c .x) (c .y)
-    kept (suc (suc (suc (suc (suc (suc (suc (suc (suc zero))))))))) e = keep-pred (λ q. omega (arith, e, q)) (c .x) (c .y)
-    kept (suc (suc (suc (suc (suc (suc (suc (suc (suc (suc zero)))))))))) e = keep-drop (λ q. omega (arith, e, q)) (c .x) (c .y)
-    kept (suc (suc (suc (suc (suc (suc (suc (suc (suc (suc (suc zero))))))))))) e = keep-seal (λ q. omega (arith, e, q)) (c .x)
-    kept (suc (suc (suc (suc (suc (suc (suc (suc (suc (suc (suc (suc zero)))))))))))) e = keep-all (λ q. omega (arith, e, q))
-    kept (suc (suc (suc (suc (suc (suc (suc (suc (suc (suc (suc (suc (suc zero))))))))))))) e = keep-ask (λ q. omega (arith, e, q)) (c .x) _
-    kept (suc (suc (suc (suc (suc (suc (suc (suc (suc (suc (suc (suc (suc (suc zero)))))))))))))) e = keep-ask (λ q. omega (arith, e, q)) (c .x) _
-    kept (suc (suc (suc (suc (suc (suc (suc (suc (suc (suc (suc (suc (suc (suc (suc k))))))))))))))) e = tt
+-- after some calls
+pub record Sure (t : State) : Type 0 where
+  pub whole : Good ⊥ t
+  pub safe : Safe (t .graph) (t .form)
+  pub count : t .graph .call ≡ length (t .done)
+  pub logged : (z : ℕ × ℕ) → In z (t .form .zeros) → z .0 < t .graph .call
+  pub answers : (i x : ℕ) → answered (t .done) i ≡ some x → x < t .form .next
 
-  -- after some calls
-  pub record Sure (t : State) : Type 0 where
-    pub whole : Good ⊥ t
-    pub safe : Safe (t .graph) (t .form)
-    pub count : t .graph .call ≡ length (t .done)
-    pub answers : (i x : ℕ) → answered (t .done) i ≡ some x → x < t .form .next
+tick-safe : (g : Graph) (s : Form) → Safe g s → Safe (tick g) s
+tick-safe g s h = record {
+  bounds = record { few = h .bounds .few; vars = h .bounds .vars; typed = h .bounds .typed; dests = h .bounds .dests; aims = h .bounds .aims; from = h .bounds .from; branches = h .bounds .branches; shut = h .bounds .shut };
+  ranged = wider-ranged g s (h .ranged) (tick g) (omega arith) (omega arith) (omega arith) (λ b. refl);
+  load = h .load;
+}
 
-  tick-safe : (g : Graph) (s : Form) → Safe g s → Safe (tick g) s
-  tick-safe g s h = record {
-    bounds = record { few = h .bounds .few; vars = h .bounds .vars; typed = h .bounds .typed; eight = h .bounds .eight; aims = h .bounds .aims; from = h .bounds .from; branches = h .bounds .branches; shut = h .bounds .shut };
-    ranged = wider-ranged g (tick g) s (h .ranged) (omega arith) (omega arith) (omega arith) (λ b. refl);
-    load = h .load;
+module _ (t : State) (c : Call) (h : Sure t) where
+  after-whole : (r : Reply) → Fine ⊥ (t .graph) (t .form) (t .done) (h .whole) c r → Good ⊥ (after t c r)
+  after-whole r f = after-good ⊥ t c (h .whole) r f
+
+  after-sure : (r : Reply) → Good ⊥ (after t c r) → Fine ⊥ (t .graph) (t .form) (t .done) (h .whole) c r → Keep (t .graph) (t .form) (t .done) (h .whole) (h .safe) c r → Sure (after t c r)
+  after-sure (no k) w n f = record {
+    whole = w;
+    safe = tick-safe (t .graph) (t .form) (h .safe);
+    count = omega (arith, h .count, length-append (t .done) (record { asked = c; code = k; number = 0 } ∷ []));
+    logged = λ z i. omega (arith, h .logged z i);
+    answers = λ i x q. on i x (answered-last (t .done) (record { asked = c; code = k; number = 0 }) i x q);
   }
+    where
+      on : (i x : ℕ) → (answered (t .done) i ≡ some x) ⊎ ((eqb (c .kind) 6 && eqb k 0 ≡ true) × (0 ≡ x)) → x < t .form .next
+      on i x (inl q) = h .answers i x q
+      on i x (inr q) = absurd (n (eqb-eq k 0 (and-both (eqb (c .kind) 6) (eqb k 0) (q .0) .1)))
+  after-sure (ok n g s) w u f = record {
+    whole = w;
+    safe = tick-safe g s (f .safe);
+    count = omega (arith, h .count, f .calls, length-append (t .done) (record { asked = c; code = 0; number = n } ∷ []));
+    logged = λ z i. omega (arith, f .safe .ranged .logs .noted z i .0);
+    answers = λ i x q. on i x (answered-last (t .done) (record { asked = c; code = 0; number = n }) i x q);
+  }
+    where
+      on : (i x : ℕ) → (answered (t .done) i ≡ some x) ⊎ ((eqb (c .kind) 6 && eqb 0 0 ≡ true) × (n ≡ x)) → x < s .next
+      on i x (inl q) = le-trans (h .answers i x q) (f .more)
+      on i x (inr q) = subst (λ (j : ℕ). j < s .next) (q .1) (f .answer (eqb-eq (c .kind) 6 (and-both (eqb (c .kind) 6) true (q .0) .0)))
 
-  module _ (t : State) (c : Call) (h : Sure t) where
-    after-whole : (r : Reply) → Fine ⊥ (t .graph) (t .form) (t .done) (h .whole) c r → Good ⊥ (after t c r)
-    after-whole r f = after-good ⊥ t c (h .whole) r f
+  pub step-sure : Sure (step t c)
+  step-sure =
+      let r = reply (t .graph) (t .form) (t .done) (c .x) (c .y) (c .z) (c .kind) in
+      let f = fine ⊥ (t .graph) (t .form) (t .done) (h .whole) c (c .kind) refl (λ z. absurd z) in
+      after-sure r (after-whole r f) f (kept (t .graph) (t .form) (t .done) (h .whole) (h .safe) c (c .kind) refl)
 
-    after-sure : (r : Reply) → Good ⊥ (after t c r) → Fine ⊥ (t .graph) (t .form) (t .done) (h .whole) c r → Keep (t .graph) (t .form) (t .done) (h .whole) (h .safe) c r → Sure (after t c r)
-    after-sure (no k) w n f = record {
-      whole = w;
-      safe = tick-safe (t .graph) (t .form) (h .safe);
-      count = omega (arith, h .count, length-append (t .done) (record { asked = c; code = k; number = 0 } ∷ []));
-      answers = λ i x q. on i x (answered-last (t .done) (record { asked = c; code = k; number = 0 }) i x q);
-    }
-      where
-        on : (i x : ℕ) → (answered (t .done) i ≡ some x) ⊎ ((eqb (c .kind) 6 && eqb k 0 ≡ true) × (0 ≡ x)) → x < t .form .next
-        on i x (inl q) = h .answers i x q
-        on i x (inr q) = absurd (n (eqb-eq k 0 (and-both (eqb (c .kind) 6) (eqb k 0) (q .0) .1)))
-    after-sure (ok n g s) w u f = record {
-      whole = w;
-      safe = tick-safe g s (f .safe);
-      count = omega (arith, h .count, f .calls, length-append (t .done) (record { asked = c; code = 0; number = n } ∷ []));
-      answers = λ i x q. on i x (answered-last (t .done) (record { asked = c; code = 0; number = n }) i x q);
-    }
-      where
-        on : (i x : ℕ) → (answered (t .done) i ≡ some x) ⊎ ((eqb (c .kind) 6 && eqb 0 0 ≡ true) × (n ≡ x)) → x < s .next
-        on i x (inl q) = le-trans (h .answers i x q) (f .more)
-        on i x (inr q) = subst (λ (j : ℕ). j < s .next) (q .1) (f .answer (eqb-eq (c .kind) 6 (and-both (eqb (c .kind) 6) true (q .0) .0)))
+pub run-sure : (cs : List Call) (t : State) → Sure t → Sure (run t cs)
+run-sure [] t h = h
+run-sure (c ∷ cs) t h = run-sure cs (step t c) (step-sure t c h)
 
-    pub step-sure : Sure (step t c)
-    step-sure =
-        let r = reply (t .graph) (t .form) (t .done) (c .x) (c .y) (c .z) (c .kind) in
-        let f = fine ⊥ (t .graph) (t .form) (t .done) (h .whole) c (c .kind) refl (λ z. absurd z) in
-        after-sure r (after-whole r f) f (kept (t .graph) (t .form) (t .done) (h .whole) (h .safe) c (c .kind) refl)
-
-  pub run-sure : (cs : List Call) (t : State) → Sure t → Sure (run t cs)
-  run-sure [] t h = h
-  run-sure (c ∷ cs) t h = run-sure cs (step t c) (step-sure t c h)
-
-  none-waiting : (n : ℕ) → waiting (λ b. []) n ≡ 0
-  none-waiting zero = refl
-  none-waiting (suc n) = omega (arith, none-waiting n)
-
-  pub empty-sure : 2 * (N * M) ≤ A → N * M ≤ Z → Sure empty
-  empty-sure lA lZ = record {
-    whole = empty-good ⊥;
-    safe = record {
-      bounds = record { few = omega arith; vars = omega arith; typed = λ w l. absurd (not-suc-le-zero l); eight = λ p. omega arith; aims = λ p b i. absurd i; from = λ p b i. absurd i; branches = λ p e. absurd (false-true refl e); shut = λ b e. absurd (false-true refl e) };
-      ranged = record {
-        closed = λ x l. absurd (not-suc-le-zero l);
-        homes = λ x l. absurd (not-suc-le-zero l);
-        types = λ x l. absurd (not-suc-le-zero l);
-        entries = λ w b e q. absurd (some-none q refl);
-        owns = λ w b e q. absurd (some-none q refl);
-        args = λ p i a k. absurd k;
-        still = λ b z. refl;
-        caused = record { param-of = λ x l. absurd (not-suc-le-zero l); zero-of = λ z l. absurd (not-suc-le-zero l) };
-        zeros = λ z i. absurd i;
-        once = tt;
-        placed = λ b i. absurd i;
-      };
-      load =
-          let k = all-le N (empty .form) M in
-          let u = none-waiting N in
-          record { values = omega (arith, k, u, lA); zeros = omega (arith, k, u, lZ); made = omega arith };
+pub empty-sure : Sure empty
+empty-sure = record {
+  whole = empty-good ⊥;
+  safe = record {
+    bounds = record { few = omega arith; vars = omega arith; typed = λ w l. absurd (not-suc-le-zero l); dests = λ p. omega arith; aims = λ p b i. absurd i; from = λ p b i. absurd i; branches = λ p e. absurd (false-true refl e); shut = λ b e. absurd (false-true refl e) };
+    ranged = record {
+      valued = record { closed = λ x l. absurd (not-suc-le-zero l); homes = λ x l. absurd (not-suc-le-zero l); types = λ x l. absurd (not-suc-le-zero l) };
+      recorded = record { entries = λ w b e q. absurd (some-none q refl); owns = λ w b e q. absurd (some-none q refl); passed = λ p i a k. absurd k };
+      logs = record { noted = λ z i. absurd i; once = tt; within = λ b i. absurd i };
+      caused = record { param-of = λ x l. absurd (not-suc-le-zero l); zero-of = λ z l. absurd (not-suc-le-zero l) };
+      still = λ b z. refl;
     };
-    count = refl;
-    answers = λ i x q. absurd (some-none q refl);
-  }
-
--- the limits
-pub full : 64 ≤ 64
-full = omega arith
-
-abbrev pub Always : State → Type 0
-Always t = Sure 64 64 8192 4096 full full t
+    load =
+        let k = all-le (empty .form) in
+        let u = sum-most 0 (λ b. length (empty .form .pending b)) (limits .blocks) (λ _ _. omega arith) in
+        record { values = omega (arith, k, u); zeros = omega (arith, k, u); made = omega arith };
+  };
+  count = refl;
+  logged = λ z i. absurd i;
+  answers = λ i x q. absurd (some-none q refl);
+}
 
 -- of every session
-pub sure : (cs : List Call) → Always (session cs)
-sure cs = run-sure 64 64 8192 4096 full full cs empty (empty-sure 64 64 8192 4096 full full (omega arith) (omega arith))
+pub sure : (cs : List Call) → Sure (session cs)
+sure cs = run-sure cs empty empty-sure

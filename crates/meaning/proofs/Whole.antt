@@ -1,28 +1,33 @@
 -- The invariant of a session, and that each call keeps it. Assumes nothing.
 use Prim.Native.Nat.{ℕ, zero, suc, _+_, _<_, _≤_}
-use mathlib.Core.Path.{_≡_, refl, sym, ap, _∙_, subst, fun-ext}
+use mathlib.Core.Path.{_≡_, refl, sym, ap, _∙_, subst}
 use mathlib.Core.Logic.{_≢_, _⊎_, inl, inr}
 use mathlib.Core.Bool.{Bool, true, false, cond, not, _&&_, _||_}
 use mathlib.Core.Option.{Option, none, some}
-use mathlib.Core.List.{List, [], _∷_, _++_, append-assoc, append-nil, map}
-use lib.Dec.{eqb, ltb, leb, T, nltb→le, nleb→lt, leb→le}
+use mathlib.Core.List.{List, [], _∷_, _++_, append-nil, map}
+use lib.Dec.{eqb, ltb, leb}
 use lib.ListN.{length, getD, length-append, List·getD-append}
 use native.Mathlib.Omega.{arith}
-use native.Mathlib.Nat.{le-trans, not-suc-le-zero, le-of-suc-le-suc}
+use native.Mathlib.Nat.{le-trans}
+use Rattle.entity.specs.Types.{type-count}
+use Rattle.entity.specs.Limits.{limits}
 use Rattle.definition.specs.Base.{put, put₂, orElse, has, any, upFrom}
-use Rattle.definition.specs.Form.{Graph, Form, Info, Sort, made, param, nought, def, with-makes}
-use Rattle.definition.specs.Read.{resolve, type-of, write, make, place-block, read, depth}
-use Rattle.definition.specs.Session.{Call, Done, State, Reply, no, ok, refuse_when_else_, declared-anywhere, no-block, no-var, no-value, no-branch, declare-block, declare-var, make-value, define, use-var, new-branch, new-dest, add-pred, drop-pred, swap-out, but-last, last, seal, seal-form, mark-sealed, seal-each, seal-all, define-answer, answered, reply, tick, bit}
+use Rattle.definition.specs.Form.{Graph, Form, Info, made, param, def, with-makes, with-preds, with-blocks, graph}
+use Rattle.definition.specs.Read.{type-of, write, make, place-block, read, depth}
+use Rattle.definition.specs.Session.{Call, Done, Reply, no, ok, refuse_when_else_, declared-anywhere, no-block, no-var, no-value, no-branch, declare-block}
+use Rattle.definition.specs.Session.{declare-var, make-value, define, use-var, new-branch, new-dest, add-pred, drop-pred, swap-out, but-last, last, seal}
+use Rattle.definition.specs.Session.{seal-form, mark-sealed, seal-each, seal-all, define-answer, answered, reply}
 use Rattle.meaning.specs.Path.{In, Act, makes, gives, uses, act, acts, if-so, declares, defines}
-use Rattle.meaning.proofs.Maps.{same?, put-same, put-other, put-at, eqb-same, eqb-diff, eqb-eq}
+use Rattle.meaning.specs.Stored.{Nodup}
+use Rattle.meaning.proofs.Maps.{same?, put-same, put-other, put-at, eqb-same, eqb-diff, put₂-at, put₂-other, false-true, or-no, leb-no, ltb-no}
+use Rattle.meaning.proofs.Maps.{not-no}
 use Rattle.meaning.proofs.Facts.{cur}
-use Rattle.meaning.proofs.Lists.{Nodup, nodup-snoc, in-left, in-right, in-cases, put₂-at, put₂-other, here?}
+use Rattle.meaning.proofs.Lists.{nodup-snoc, in-left, in-right, in-cases, has-in, in-has, map-in, in-one, put-in}
 use Rattle.meaning.proofs.Inv.{Grow, grow-refl, grow-trans, Inv, make-inv, make-grow}
-use Rattle.meaning.proofs.Keeping.{false-true}
-use Rattle.meaning.proofs.Settle.{relog-inv, relog-grow, map-in}
-use Rattle.meaning.proofs.Reading.{Sound, Busy, Read, reads}
-use Rattle.meaning.proofs.Sealing.{idle, shallow, Sealed, sealed-one}
-use Rattle.meaning.proofs.Story.{Tells, Keeps, keeps, Under, tells-mono, tells-makes, tells-gives, tells-uses, cur-or, cur-append, acts-append}
+use Rattle.meaning.proofs.Settle.{relog-inv}
+use Rattle.meaning.proofs.Reading.{Sound, Read, reads}
+use Rattle.meaning.proofs.Sealing.{idle, shallow, sealed-one, sound-sealed}
+use Rattle.meaning.proofs.Story.{Tells, Keeps, keeps, tells-mono, tells-makes, tells-gives, tells-uses, cur-or, cur-append, acts-append}
 use Rattle.meaning.proofs.Graphs.{wider-inv, aimed-inv, joined-inv, write-inv}
 
 pub record Whole (E : Type 0) (g : Graph) (s : Form) (ds : List Done) : Type 0 where
@@ -56,38 +61,6 @@ module _ (E : Type 0) (g : Graph) (s : Form) (ds : List Done) (h : Whole E g s d
       on b p old (inl j) = let k = old j in (k .0, in-left (k .0) ds (d ∷ []) (k .1), k .2)
       on b p old (inr e) = (d, in-right d ds (d ∷ []) (inl refl), e)
 
--- tests
-pub ltb-no : (m n : ℕ) → ltb m n ≡ false → n ≤ m
-ltb-no m n e = nltb→le m n (subst (λ (b : Bool). T (not b)) (sym e) tt)
-
-pub leb-no : (m n : ℕ) → leb m n ≡ false → n < m
-leb-no m n e = nleb→lt m n (subst (λ (b : Bool). T (not b)) (sym e) tt)
-
-pub or-no : (a b : Bool) → a || b ≡ false → (a ≡ false) × (b ≡ false)
-or-no true b e = absurd (false-true e refl)
-or-no false b e = (refl, e)
-
-pub not-no : (a : Bool) → not a ≡ false → a ≡ true
-not-no true e = refl
-not-no false e = absurd (false-true e refl)
-
-pub has-in : (p : ℕ) (l : List ℕ) → In p l → has p l ≡ true
-has-in p [] i = absurd i
-has-in p (q ∷ l) (inl e) = rw (ap (λ (k : ℕ). eqb k q) e ∙ eqb-same q) refl
-has-in p (q ∷ l) (inr i) = by (eqb p q) (has-in p l i)
-  where
-    by : (b : Bool) → has p l ≡ true → b || has p l ≡ true
-    by true e = refl
-    by false e = e
-
-pub in-has : (p : ℕ) (l : List ℕ) → has p l ≡ true → In p l
-in-has p [] e = absurd (false-true refl e)
-in-has p (q ∷ l) e = by (same? p q) (in-has p l)
-  where
-    by : (p ≡ q) ⊎ (p ≢ q) → (has p l ≡ true → In p l) → In p (q ∷ l)
-    by (inl k) below = inl k
-    by (inr n) below = inr (below (rw (eqb-diff p q n) at e))
-
 pub some-no : (f : ℕ → Bool) (l : List ℕ) → any f l ≡ false → (x : ℕ) → In x l → f x ≡ false
 some-no f [] e x i = absurd i
 some-no f (y ∷ l) e x (inl k) = ap f k ∙ or-no (f y) (any f l) e .0
@@ -95,11 +68,7 @@ some-no f (y ∷ l) e x (inr i) = some-no f l (or-no (f y) (any f l) e .1) x i
 
 pub up-in : (n i b : ℕ) → i ≤ b → b < i + n → In b (upFrom i n)
 up-in zero i b lo hi = absurd (omega arith)
-up-in (suc n) i b lo hi = by (same? b i) (up-in n (suc i) b)
-  where
-    by : (b ≡ i) ⊎ (b ≢ i) → (suc i ≤ b → b < suc i + n → In b (upFrom (suc i) n)) → In b (i ∷ upFrom (suc i) n)
-    by (inl e) below = inl e
-    by (inr d) below = inr (below (omega arith) (omega arith))
+up-in (suc n) i b lo hi = elim (same? b i) [ inl e ↦ inl e | inr d ↦ inr (up-in n (suc i) b (omega arith) (omega arith)) ]
 
 -- taking a predecessor out
 last-in : (d : ℕ) (x : ℕ) (l : List ℕ) → In (last d (x ∷ l)) (x ∷ l)
@@ -126,20 +95,13 @@ abbrev swap-one : ℕ → ℕ → ℕ → ℕ
 swap-one p z q = cond (eqb q p) z q
 
 swap-is : (p z q : ℕ) → ((q ≡ p) × (swap-one p z q ≡ z)) ⊎ ((q ≢ p) × (swap-one p z q ≡ q))
-swap-is p z q = by (same? q p)
-  where
-    by : (q ≡ p) ⊎ (q ≢ p) → ((q ≡ p) × (swap-one p z q ≡ z)) ⊎ ((q ≢ p) × (swap-one p z q ≡ q))
-    by (inl e) = inl (e, rw (ap (λ (k : ℕ). eqb k p) e ∙ eqb-same p) refl)
-    by (inr n) = inr (n, rw (eqb-diff q p n) refl)
+swap-is p z q = elim (same? q p) [ inl e ↦ inl (e, rw (e, eqb-same p) refl) | inr n ↦ inr (n, rw (eqb-diff q p n) refl) ]
 
 swap-inj : (p z x r : ℕ) → x ≢ z → r ≢ z → x ≢ r → swap-one p z x ≡ swap-one p z r → ⊥
-swap-inj p z x r xz rz xr e = on (swap-is p z x) (swap-is p z r)
-  where
-    on : ((x ≡ p) × (swap-one p z x ≡ z)) ⊎ ((x ≢ p) × (swap-one p z x ≡ x)) → ((r ≡ p) × (swap-one p z r ≡ z)) ⊎ ((r ≢ p) × (swap-one p z r ≡ r)) → ⊥
-    on (inl a) (inl b) = xr (a .0 ∙ sym (b .0))
-    on (inl a) (inr b) = rz (sym (b .1) ∙ sym e ∙ a .1)
-    on (inr a) (inl b) = xz (sym (a .1) ∙ e ∙ b .1)
-    on (inr a) (inr b) = xr (sym (a .1) ∙ e ∙ b .1)
+swap-inj p z x r xz rz xr e = elim (swap-is p z x) [
+  | inl a ↦ elim (swap-is p z r) [ inl b ↦ xr (a .0 ∙ sym (b .0)) | inr b ↦ rz (sym (b .1) ∙ sym e ∙ a .1) ]
+  | inr a ↦ elim (swap-is p z r) [ inl b ↦ xz (sym (a .1) ∙ e ∙ b .1) | inr b ↦ xr (sym (a .1) ∙ e ∙ b .1) ]
+]
 
 swap-nodup : (p z d x : ℕ) (l : List ℕ) → Nodup (x ∷ l) → last d (x ∷ l) ≡ z → Nodup (but-last (map (swap-one p z) (x ∷ l)))
 swap-nodup p z d x [] n e = tt
@@ -157,14 +119,10 @@ out-nodup p (x ∷ l) n = swap-nodup p (last p (x ∷ l)) p x l n refl
 
 out-in : (p : ℕ) (l : List ℕ) (q : ℕ) → In q (swap-out p l) → In q l
 out-in p [] q i = i
-out-in p (x ∷ l) q i = on (map-in (swap-one p (last p (x ∷ l))) (x ∷ l) q (butlast-in (map (swap-one p (last p (x ∷ l))) (x ∷ l)) q i))
-  where
-    on : (r : ℕ) × In r (x ∷ l) × (q ≡ swap-one p (last p (x ∷ l)) r) → In q (x ∷ l)
-    on k = by (swap-is p (last p (x ∷ l)) (k .0))
-      where
-        by : ((k .0 ≡ p) × (swap-one p (last p (x ∷ l)) (k .0) ≡ last p (x ∷ l))) ⊎ ((k .0 ≢ p) × (swap-one p (last p (x ∷ l)) (k .0) ≡ k .0)) → In q (x ∷ l)
-        by (inl a) = subst (λ (j : ℕ). In j (x ∷ l)) (sym (k .2 ∙ a .1)) (last-in p x l)
-        by (inr a) = subst (λ (j : ℕ). In j (x ∷ l)) (sym (k .2 ∙ a .1)) (k .1)
+out-in p (x ∷ l) q i =
+    let z = last p (x ∷ l) in
+    let k = map-in (swap-one p z) (x ∷ l) q (butlast-in (map (swap-one p z) (x ∷ l)) q i) in
+    elim (swap-is p z (k .0)) [ inl a ↦ rw (k .2 ∙ a .1) (last-in p x l) | inr a ↦ rw (k .2 ∙ a .1) (k .1) ]
 
 module _ (E : Type 0) (g : Graph) (s : Form) (ds : List Done) (h : Whole E g s ds) (c : Call) where
   abbrev said : ℕ → Done
@@ -192,106 +150,79 @@ module _ (E : Type 0) (g : Graph) (s : Form) (ds : List Done) (h : Whole E g s d
 
   -- only the graph's counts and marks change, and perhaps the logs
   wider-fine : Quiet → (n bl : ℕ) (ty : List ℕ) (br : ℕ → Bool) (s′ : Form) → Inv g E s′ (h .kp) idle → Grow s s′ → g .blocks ≤ bl
-      → ((w : ℕ) → w < length (g .types) → (w < length ty) × (getD ty w 0 ≡ getD (g .types) w 0))
-      → Fine (ok n (record { call = g .call; blocks = bl; types = ty; branch = br; dests = g .dests; preds = g .preds; sealed = g .sealed }) s′)
+      → ((w : ℕ) → w < length (g .types) → (w < length ty) × (getD ty w 0 ≡ getD (g .types) w 0)) → Fine (ok n (graph (g .call) bl ty br (g .dests) (g .preds) (g .sealed)) s′)
   wider-fine q n bl ty br s′ i w more typed = silent E g s ds h (said n) (q n) _ s′ (h .kp) (wider-inv g E s′ (h .kp) idle i (g .call) bl ty br more typed)
-      (record { range = λ b p k. le-trans (h .sound .range b p k) more; nodup = h .sound .nodup; inside = λ b p k. le-trans (h .sound .inside b p k) more; names = h .sound .names }) (λ b p k. inl k) w
+      (record { range = λ b p k. le-trans (h .sound .range b p k) more; nodup = h .sound .nodup; inside = λ b p k. le-trans (h .sound .inside b p k) more; names = h .sound .names })
+      (λ b p k. inl k) w
 
   untyped : (w : ℕ) → w < length (g .types) → (w < length (g .types)) × (getD (g .types) w 0 ≡ getD (g .types) w 0)
   untyped w l = (l, refl)
 
+  placed-inv : (b : ℕ) → Inv g E (place-block b s) (h .kp) idle
+  placed-inv b = relog-inv g E (s .zeros) (place-block b s .placed) (s .makes) s (h .kp) idle (h .inv)
+
   fine-block : Quiet → (x : ℕ) → Fine (declare-block g s x)
-  fine-block q x = check 4 (leb 64 x) _ (omega arith) λ _. check 5 (ltb (g .blocks) x) _ (omega arith) λ _. choose (ltb x (g .blocks)) _ _ (λ _. nothing q x)
+  fine-block q x = check 4 (leb (limits .blocks) x) _ (omega arith) λ _. check 5 (ltb (g .blocks) x) _ (omega arith) λ _. choose (ltb x (g .blocks)) _ _ (λ _. nothing q x)
       λ e. by (eqb x 0) (ltb-no x (g .blocks) e)
     where
-      by : (z : Bool) → g .blocks ≤ x → Fine (ok x (record { call = g .call; blocks = suc x; types = g .types; branch = g .branch; dests = g .dests; preds = g .preds; sealed = g .sealed }) (cond z (place-block 0 s) s))
-      by true lo = wider-fine q x (suc x) (g .types) (g .branch) (place-block 0 s) (relog-inv g E (s .zeros) (place-block 0 s .placed) (s .makes) s (h .kp) idle (h .inv)) (relog-grow g E (s .zeros) (place-block 0 s .placed) (s .makes) s) (omega arith) untyped
+      by : (z : Bool) → g .blocks ≤ x → Fine (ok x (with-blocks g (suc x)) (cond z (place-block 0 s) s))
+      by true lo = wider-fine q x (suc x) (g .types) (g .branch) (place-block 0 s) (placed-inv 0) (grow-refl s) (omega arith) untyped
       by false lo = wider-fine q x (suc x) (g .types) (g .branch) s (h .inv) (grow-refl s) (omega arith) untyped
 
   fine-var : Quiet → (x y : ℕ) → Fine (declare-var g s x y)
-  fine-var q x y = check 4 (leb 64 x) _ (omega arith) λ _. check 5 (ltb (length (g .types)) x) _ (omega arith) λ _. check 6 (leb 6 y) _ (omega arith) λ _.
-      check 7 (ltb x (length (g .types)) && not (eqb y (type-of g x))) _ (omega arith) λ _.
-      choose (ltb x (length (g .types))) _ _ (λ _. nothing q x) λ _. wider-fine q x (g .blocks) (g .types ++ y ∷ []) (g .branch) s (h .inv) (grow-refl s) (omega arith) typed
-    where
-      typed : (w : ℕ) → w < length (g .types) → (w < length (g .types ++ y ∷ [])) × (getD (g .types ++ y ∷ []) w 0 ≡ getD (g .types) w 0)
-      typed w l = (rw (length-append (g .types) (y ∷ [])) (omega arith), List·getD-append (g .types) (y ∷ []) 0 w l)
+  fine-var q x y =
+      check 4 (leb (limits .variables) x) _ (omega arith) λ _. check 5 (ltb (length (g .types)) x) _ (omega arith) λ _. check 6 (leb type-count y) _ (omega arith) λ _.
+      check 7 (ltb x (length (g .types)) && not (eqb y (type-of g x))) _ (omega arith) λ _. choose (ltb x (length (g .types))) _ _ (λ _. nothing q x) λ _.
+      wider-fine q x (g .blocks) (g .types ++ y ∷ []) (g .branch) s (h .inv) (grow-refl s) (omega arith)
+      (λ w l. (omega (arith, l, length-append (g .types) (y ∷ [])), List·getD-append (g .types) (y ∷ []) 0 w l))
 
   fine-branch : Quiet → (b : ℕ) → Fine (new-branch g s b)
   fine-branch q b = check 6 (no-block g s b) _ (omega arith) λ _. check 9 (g .branch b) _ (omega arith) λ _.
-      wider-fine q b (g .blocks) (g .types) (put b true (g .branch)) (place-block b s) (relog-inv g E (s .zeros) (place-block b s .placed) (s .makes) s (h .kp) idle (h .inv)) (relog-grow g E (s .zeros) (place-block b s .placed) (s .makes) s) (omega arith) untyped
+      wider-fine q b (g .blocks) (g .types) (put b true (g .branch)) (place-block b s) (placed-inv b) (grow-refl s) (omega arith) untyped
 
   fine-dest : Quiet → (p b : ℕ) → Fine (new-dest g s p b)
-  fine-dest q p b = check 6 (no-branch g s p || no-block g s b) _ (omega arith) λ _. check 11 (declared-anywhere g p) _ (omega arith) λ e. check 10 (leb 8 (length (g .dests p))) _ (omega arith) λ _.
+  fine-dest q p b =
+      check 6 (no-branch g s p || no-block g s b) _ (omega arith) λ _. check 11 (declared-anywhere g p) _ (omega arith) λ e. check 10 (leb (limits .dests) (length (g .dests p))) _ (omega arith) λ _.
       silent E g s ds h (said (length (g .dests p))) (q (length (g .dests p))) _ s (h .kp) (aimed-inv g E s (h .kp) idle (h .inv) p b (nowhere e))
-      (record { range = h .sound .range; nodup = h .sound .nodup; inside = h .sound .inside; names = λ c r i. names c r i (same? r p) }) (λ c r i. inl i) (grow-refl s)
+      (record { range = h .sound .range; nodup = h .sound .nodup; inside = h .sound .inside; names = names }) (λ c r i. inl i) (grow-refl s)
     where
       nowhere : declared-anywhere g p ≡ false → (c : ℕ) → In p (g .preds c) → ⊥
       nowhere e c i = false-true (some-no (λ d. has p (g .preds d)) (upFrom 0 (g .blocks)) e c (up-in (g .blocks) 0 c (omega arith) (omega (arith, h .sound .inside c p i)))) (has-in p (g .preds c) i)
 
-      names : (c r : ℕ) → In r (g .preds c) → (r ≡ p) ⊎ (r ≢ p) → In c (put p (g .dests p ++ b ∷ []) (g .dests) r)
-      names c r i (inl k) = rw (put-at p (g .dests p ++ b ∷ []) (g .dests) r k) (in-left c (g .dests p) (b ∷ []) (subst (λ (j : ℕ). In c (g .dests j)) k (h .sound .names c r i)))
-      names c r i (inr k) = rw (put-other p (g .dests p ++ b ∷ []) (g .dests) r k) (h .sound .names c r i)
+      names : (c r : ℕ) → In r (g .preds c) → In c (put p (g .dests p ++ b ∷ []) (g .dests) r)
+      names c r i = elim (same? r p) [
+        | inl k ↦ rw (put-at p (g .dests p ++ b ∷ []) (g .dests) r k) (in-left c (g .dests p) (b ∷ []) (rw k at (h .sound .names c r i)))
+        | inr k ↦ rw (put-other p (g .dests p ++ b ∷ []) (g .dests) r k) (h .sound .names c r i)
+      ]
 
   -- other predecessors of an unsealed block
   joined-fine : Quiet → (n b : ℕ) (ps : List ℕ) → g .sealed b ≡ false → b < g .blocks → Nodup ps → ((p : ℕ) → In p ps → (p < g .blocks) × In b (g .dests p))
-      → ((p : ℕ) → In p ps → In p (g .preds b) ⊎ (declares p (said n) ≡ true))
-      → Fine (ok n (record { call = g .call; blocks = g .blocks; types = g .types; branch = g .branch; dests = g .dests; preds = put b ps (g .preds); sealed = g .sealed }) s)
+      → ((p : ℕ) → In p ps → In p (g .preds b) ⊎ (declares p (said n) ≡ true)) → Fine (ok n (with-preds g (put b ps (g .preds))) s)
   joined-fine q n b ps z lb nd good was = silent E g s ds h (said n) (q n) _ s (h .kp) (joined-inv g E s (h .kp) idle (h .inv) b ps z)
-      (record { range = λ c p i. range c p (same? c b) i; nodup = λ c. nodup c (same? c b); inside = λ c p i. inside c p (same? c b) i; names = λ c p i. names c p (same? c b) i })
-      (λ c p i. known c p (same? c b) i) (grow-refl s)
-    where
-      move : (c p : ℕ) → c ≡ b → In p (put b ps (g .preds) c) → In p ps
-      move c p k i = subst (λ (l : List ℕ). In p l) (put-at b ps (g .preds) c k) i
-
-      stay : (c p : ℕ) → c ≢ b → In p (put b ps (g .preds) c) → In p (g .preds c)
-      stay c p k i = subst (λ (l : List ℕ). In p l) (put-other b ps (g .preds) c k) i
-
-      range : (c p : ℕ) → (c ≡ b) ⊎ (c ≢ b) → In p (put b ps (g .preds) c) → p < g .blocks
-      range c p (inl k) i = good p (move c p k i) .0
-      range c p (inr k) i = h .sound .range c p (stay c p k i)
-
-      nodup : (c : ℕ) → (c ≡ b) ⊎ (c ≢ b) → Nodup (put b ps (g .preds) c)
-      nodup c (inl k) = subst (λ (l : List ℕ). Nodup l) (sym (put-at b ps (g .preds) c k)) nd
-      nodup c (inr k) = subst (λ (l : List ℕ). Nodup l) (sym (put-other b ps (g .preds) c k)) (h .sound .nodup c)
-
-      inside : (c p : ℕ) → (c ≡ b) ⊎ (c ≢ b) → In p (put b ps (g .preds) c) → c < g .blocks
-      inside c p (inl k) i = subst (λ (j : ℕ). j < g .blocks) (sym k) lb
-      inside c p (inr k) i = h .sound .inside c p (stay c p k i)
-
-      names : (c p : ℕ) → (c ≡ b) ⊎ (c ≢ b) → In p (put b ps (g .preds) c) → In c (g .dests p)
-      names c p (inl k) i = subst (λ (j : ℕ). In j (g .dests p)) (sym k) (good p (move c p k i) .1)
-      names c p (inr k) i = h .sound .names c p (stay c p k i)
-
-      known : (c p : ℕ) → (c ≡ b) ⊎ (c ≢ b) → In p (put b ps (g .preds) c) → In p (g .preds c) ⊎ (declares p (said n) ≡ true)
-      known c p (inl k) i = on (was p (move c p k i))
-        where
-          on : In p (g .preds b) ⊎ (declares p (said n) ≡ true) → In p (g .preds c) ⊎ (declares p (said n) ≡ true)
-          on (inl j) = inl (subst (λ (u : ℕ). In p (g .preds u)) (sym k) j)
-          on (inr e) = inr e
-      known c p (inr k) i = inl (stay c p k i)
+      (record {
+        range = λ c p i. elim (put-in p b ps (g .preds) c i) [ inl k ↦ good p (k .1) .0 | inr j ↦ h .sound .range c p j ];
+        nodup = λ c. elim (same? c b) [ inl k ↦ rw (put-at b ps (g .preds) c k) nd | inr k ↦ rw (put-other b ps (g .preds) c k) (h .sound .nodup c) ];
+        inside = λ c p i. elim (put-in p b ps (g .preds) c i) [ inl k ↦ rw (k .0) lb | inr j ↦ h .sound .inside c p j ];
+        names = λ c p i. elim (put-in p b ps (g .preds) c i) [ inl k ↦ rw (k .0) (good p (k .1) .1) | inr j ↦ h .sound .names c p j ];
+      })
+      (λ c p i. elim (put-in p b ps (g .preds) c i) [ inl k ↦ rw (k .0) (was p (k .1)) | inr j ↦ inl j ]) (grow-refl s)
 
   fine-pred : Quiet → (b p : ℕ) → ((n : ℕ) → declares p (said n) ≡ true) → Fine (add-pred g s b p)
-  fine-pred q b p dec = check 6 (no-block g s b || no-branch g s p) _ (omega arith) λ e₆. check 8 (g .sealed b) _ (omega arith) λ e₈. check 13 (not (has b (g .dests p))) _ (omega arith) λ e₁₃. check 12 (has p (g .preds b)) _ (omega arith) λ e₁₂.
+  fine-pred q b p dec =
+      check 6 (no-block g s b || no-branch g s p) _ (omega arith) λ e₆. check 8 (g .sealed b) _ (omega arith) λ e₈. check 13 (not (has b (g .dests p))) _ (omega arith) λ e₁₃.
+      check 12 (has p (g .preds b)) _ (omega arith) λ e₁₂.
       let o = or-no (no-block g s b) (no-branch g s p) e₆ in
-      let lb = leb-no (g .blocks) b (o .0) in
       let lp = leb-no (g .blocks) p (or-no (no-block g s p) (not (g .branch p)) (o .1) .0) in
-      joined-fine q (suc (length (g .preds b))) b (g .preds b ++ p ∷ []) e₈ lb (nodup-snoc (g .preds b) p (h .sound .nodup b) (λ i. false-true e₁₂ (has-in p (g .preds b) i)))
-      (λ r i. good lp (in-has b (g .dests p) (not-no (has b (g .dests p)) e₁₃)) r (in-cases r (g .preds b) (p ∷ []) i)) (λ r i. was r (in-cases r (g .preds b) (p ∷ []) i))
-    where
-      good : p < g .blocks → In b (g .dests p) → (r : ℕ) → In r (g .preds b) ⊎ In r (p ∷ []) → (r < g .blocks) × In b (g .dests r)
-      good lp d r (inl i) = (h .sound .range b r i, h .sound .names b r i)
-      good lp d r (inr (inl e)) = (subst (λ (j : ℕ). j < g .blocks) (sym e) lp, subst (λ (j : ℕ). In b (g .dests j)) (sym e) d)
-      good lp d r (inr (inr i)) = absurd i
-
-      was : (r : ℕ) → In r (g .preds b) ⊎ In r (p ∷ []) → In r (g .preds b) ⊎ (declares r (said (suc (length (g .preds b)))) ≡ true)
-      was r (inl i) = inl i
-      was r (inr (inl e)) = inr (ap (λ (j : ℕ). declares j (said (suc (length (g .preds b))))) e ∙ dec (suc (length (g .preds b))))
-      was r (inr (inr i)) = absurd i
+      let d = in-has b (g .dests p) (not-no (has b (g .dests p)) e₁₃) in
+      joined-fine q (suc (length (g .preds b))) b (g .preds b ++ p ∷ []) e₈ (leb-no (g .blocks) b (o .0))
+      (nodup-snoc (g .preds b) p (h .sound .nodup b) (λ i. false-true e₁₂ (has-in p (g .preds b) i)))
+      (λ r i. elim (in-cases r (g .preds b) (p ∷ []) i) [ inl j ↦ (h .sound .range b r j, h .sound .names b r j) | inr j ↦ rw (in-one r p j) (lp, d) ])
+      (λ r i. elim (in-cases r (g .preds b) (p ∷ []) i) [ inl j ↦ inl j | inr j ↦ inr (rw (in-one r p j) (dec (suc (length (g .preds b))))) ])
 
   fine-seal : Quiet → (b : ℕ) → Fine (seal g s b)
   fine-seal q b = check 6 (no-block g s b) _ (omega arith) λ _. check 8 (g .sealed b) _ (omega arith) λ e.
       let r = sealed-one g E s (h .kp) (h .inv) b e (h .sound) in
-      silent E g s ds h _ (q _) (mark-sealed g b) (seal-form g s b) (r .kp) (r .inv) (record { range = h .sound .range; nodup = h .sound .nodup; inside = h .sound .inside; names = h .sound .names }) (λ c p i. inl i) (r .grow)
+      silent E g s ds h _ (q _) (mark-sealed g b) (seal-form g s b) (r .kp) (r .inv) (sound-sealed g b (h .sound)) (λ c p i. inl i) (r .grow)
 
   -- a call that is an act of one block
   spoken : (n : ℕ) (s′ : Form) (kp′ : ℕ → List ℕ) → Inv g E s′ kp′ idle → ((b v : ℕ) → s′ .own v b ≡ cur (λ w. none) (acts b ds ++ act b (said n)) v)
@@ -330,9 +261,22 @@ module _ (E : Type 0) (g : Graph) (s : Form) (ds : List Done) (h : Whole E g s d
   made-param e = let z : _≡_ {A = ℕ} 0 1 = cc in omega arith
 
   fine-make : (x y : ℕ) → ((n b : ℕ) → act b (said n) ≡ if-so (eqb x b) (makes n)) → Fine (make-value g s x y)
-  fine-make x y is = check 6 (no-block g s x || leb 6 y) _ (omega arith) λ _. check 9 (g .branch x) _ (omega arith) λ _. check 4 (leb 4096 (s .makes)) _ (omega arith) λ _.
-      spoken (s .next) s₂ (h .kp) (make-inv g E s₁ (h .kp) idle inv₁ made y x made-param) (λ b v. own b v (same? x b)) (λ b. tells b (same? x b))
+  fine-make x y is =
+      check 6 (no-block g s x || leb type-count y) _ (omega arith) λ _. check 9 (g .branch x) _ (omega arith) λ _. check 4 (leb (limits .made) (s .makes)) _ (omega arith) λ _.
+      spoken n s₂ (h .kp) (make-inv g E s₁ (h .kp) idle inv₁ made y x made-param)
+      (λ b v. elim (same? x b) [
+        | inl e ↦ h .own b v ∙ sym (cur-here n x (makes n) (is n) b v e)
+        | inr d ↦ h .own b v ∙ sym (cur-else n x (makes n) (is n) b v d)
+      ])
+      (λ b. elim (same? x b) [
+        | inl e ↦ tells-here n x (makes n) (is n) s₂ b e (tells-makes s s₂ (keeps up) b (λ v. s .entry v b) [] (λ z i. absurd i) (omega arith)
+            (ap (λ (i : Info). i .home) new ∙ e) (ap (λ (i : Info). i .sort) new) (acts b ds) (h .tells b))
+        | inr d ↦ tells-else n x (makes n) (is n) s₂ (keeps up) b (λ v u q. q) d
+      ])
     where
+      n : ℕ
+      n = s .next
+
       s₁ : Form
       s₁ = place-block x (with-makes s (suc (s .makes)))
 
@@ -343,65 +287,57 @@ module _ (E : Type 0) (g : Graph) (s : Form) (ds : List Done) (h : Whole E g s d
       inv₁ = relog-inv g E (s .zeros) (s₁ .placed) (s₁ .makes) s (h .kp) idle (h .inv)
 
       up : Grow s s₂
-      up = grow-trans s s₁ s₂ (relog-grow g E (s .zeros) (s₁ .placed) (s₁ .makes) s) (make-grow g E s₁ (h .kp) idle inv₁ made y x made-param)
-
-      own : (b v : ℕ) → (x ≡ b) ⊎ (x ≢ b) → s .own v b ≡ cur (λ w. none) (acts b ds ++ act b (said (s .next))) v
-      own b v (inl e) = h .own b v ∙ sym (cur-here (s .next) x (makes (s .next)) (is (s .next)) b v e)
-      own b v (inr d) = h .own b v ∙ sym (cur-else (s .next) x (makes (s .next)) (is (s .next)) b v d)
+      up = make-grow g E s₁ (h .kp) idle inv₁ made y x made-param
 
       new : s₂ .info (s .next) ≡ record { sort = made; type = y; home = x }
       new = put-same (s .next) (record { sort = made; type = y; home = x }) (s .info)
 
-      tells : (b : ℕ) → (x ≡ b) ⊎ (x ≢ b) → Tells s₂ b (λ v. s .entry v b) [] (acts b ds ++ act b (said (s .next)))
-      tells b (inl e) = tells-here (s .next) x (makes (s .next)) (is (s .next)) s₂ b e
-          (tells-makes s s₂ (keeps up) b (λ v. s .entry v b) [] (λ z i. absurd i) (omega arith) (ap (λ (i : Info). i .home) new ∙ e) (ap (λ (i : Info). i .sort) new) (acts b ds) (h .tells b))
-      tells b (inr d) = tells-else (s .next) x (makes (s .next)) (is (s .next)) s₂ (keeps up) b (λ v u q. q) d
-
   fine-define : (v x b : ℕ) → ((n c : ℕ) → act c (said n) ≡ if-so (eqb b c) (gives v n)) → (E → define g s v x b ≡ ok x g (write v b x s) → (c : ℕ) → In b (g .preds c) → ⊥) → Fine (define g s v x b)
-  fine-define v x b is nowhere = check 6 (no-var g s v || no-value g s x || no-block g s b) _ (omega arith) λ e₆. check 7 (not (eqb (s .info x .type) (type-of g v))) _ (omega arith) λ e₇.
-      spoken x (write v b x s) (h .kp) (write-inv g E s (h .kp) idle (h .inv) v b x (λ ok-e. nowhere ok-e (rw (e₆, e₇) refl))) (λ c w. own c w (same? b c)) (λ c. tells c (same? b c))
+  fine-define v x b is nowhere =
+      check 6 (no-var g s v || no-value g s x || no-block g s b) _ (omega arith) λ e₆. check 7 (not (eqb (s .info x .type) (type-of g v))) _ (omega arith) λ e₇.
+      spoken x (write v b x s) (h .kp) (write-inv g E s (h .kp) idle (h .inv) v b x (λ ok-e. nowhere ok-e (rw (e₆, e₇) refl)))
+      (λ c w. elim (same? b c) [
+        | inl e ↦ own c w e ∙ sym (cur-here x b (gives v x) (is x) c w e)
+        | inr d ↦ put₂-other v b (some x) (s .own) w c (λ _ q. d (sym q)) ∙ h .own c w ∙ sym (cur-else x b (gives v x) (is x) c w d)
+      ])
+      (λ c. elim (same? b c) [
+        | inl e ↦ tells-here x b (gives v x) (is x) (write v b x s) c e (tells-gives (write v b x s) c (λ w. s .entry w c) [] v x (acts c ds)
+            (tells-mono s (write v b x s) level c (λ w. s .entry w c) (λ w. s .entry w c) [] (λ w o q. q) (acts c ds) (h .tells c)))
+        | inr d ↦ tells-else x b (gives v x) (is x) (write v b x s) level c (λ w u q. q) d
+      ])
     where
       level : Keeps s (write v b x s)
       level = record { res = λ y z q. q; info = λ y l. refl; more = omega arith }
 
-      own : (c w : ℕ) → (b ≡ c) ⊎ (b ≢ c) → put₂ v b (some x) (s .own) w c ≡ cur (λ u. none) (acts c ds ++ act c (said x)) w
-      own c w (inl e) = by (same? w v) ∙ sym (cur-here x b (gives v x) (is x) c w e)
-        where
-          by : (w ≡ v) ⊎ (w ≢ v) → put₂ v b (some x) (s .own) w c ≡ put v (some x) (cur (λ u. none) (acts c ds)) w
-          by (inl q) = put₂-at v b (some x) (s .own) w c q (sym e) ∙ sym (put-at v (some x) (cur (λ u. none) (acts c ds)) w q)
-          by (inr n) = put₂-other v b (some x) (s .own) w c (λ q _. n q) ∙ h .own c w ∙ sym (put-other v (some x) (cur (λ u. none) (acts c ds)) w n)
-      own c w (inr d) = put₂-other v b (some x) (s .own) w c (λ _ q. d (sym q)) ∙ h .own c w ∙ sym (cur-else x b (gives v x) (is x) c w d)
-
-      tells : (c : ℕ) → (b ≡ c) ⊎ (b ≢ c) → Tells (write v b x s) c (λ w. s .entry w c) [] (acts c ds ++ act c (said x))
-      tells c (inl e) = tells-here x b (gives v x) (is x) (write v b x s) c e
-          (tells-gives (write v b x s) c (λ w. s .entry w c) [] v x (acts c ds) (tells-mono s (write v b x s) level c (λ w. s .entry w c) (λ w. s .entry w c) [] (λ w o q. q) (acts c ds) (h .tells c)))
-      tells c (inr d) = tells-else x b (gives v x) (is x) (write v b x s) level c (λ w u q. q) d
+      own : (c w : ℕ) → b ≡ c → put₂ v b (some x) (s .own) w c ≡ put v (some x) (cur (λ u. none) (acts c ds)) w
+      own c w e = elim (same? w v) [
+        | inl q ↦ put₂-at v b (some x) (s .own) w c q (sym e) ∙ sym (put-at v (some x) (cur (λ u. none) (acts c ds)) w q)
+        | inr n ↦ put₂-other v b (some x) (s .own) w c (λ q _. n q) ∙ h .own c w ∙ sym (put-other v (some x) (cur (λ u. none) (acts c ds)) w n)
+      ]
 
   fine-use : (v b : ℕ) → ((n c : ℕ) → act c (said n) ≡ if-so (eqb b c) (uses v n)) → Fine (use-var g s v b)
   fine-use v b is = check 6 (no-var g s v || no-block g s b) _ (omega arith) λ e.
       let o = or-no (no-var g s v) (no-block g s b) e in
       let lv = leb-no (length (g .types)) v (o .0) in
-      let lb = leb-no (g .blocks) b (o .1) in
-      go lv (reads g (h .sound) v lv E (depth g) b s (h .kp) idle lb (h .inv) (λ c z. inl refl) (shallow v s g))
+      go (reads g (h .sound) v lv E (depth g) b s (h .kp) idle (leb-no (g .blocks) b (o .1)) (h .inv) (λ c z. inl refl) (shallow v s g))
     where
-      go : (lv : v < length (g .types)) → Read g (h .sound) v lv E s idle b (read (depth g) g v b s) → Fine (ok (read (depth g) g v b s .0) g (read (depth g) g v b s .1))
-      go lv r = spoken (q .0) (q .1) (r .kp) (r .inv) (λ c w. own c w (same? b c)) (λ c. tells c (same? b c))
+      q : ℕ × Form
+      q = read (depth g) g v b s
+
+      go : Read g v E s idle b (read (depth g) g v b s) → Fine (ok (read (depth g) g v b s .0) g (read (depth g) g v b s .1))
+      go r = spoken (q .0) (q .1) (r .kp) (r .inv)
+          (λ c w. elim (same? b c) [
+            | inl e ↦ r .grow .own w c ∙ h .own c w ∙ sym (cur-here (q .0) b (uses v (q .0)) (is (q .0)) c w e)
+            | inr d ↦ r .grow .own w c ∙ h .own c w ∙ sym (cur-else (q .0) b (uses v (q .0)) (is (q .0)) c w d)
+          ])
+          (λ c. elim (same? b c) [
+            | inl e ↦ tells-here (q .0) b (uses v (q .0)) (is (q .0)) (q .1) c e (tells-uses (q .1) c (λ w. q .1 .entry w c) [] v (q .0) (acts c ds) (r .o, stands c e, r .alike)
+                (tells-mono s (q .1) (keeps (r .grow)) c (λ w. s .entry w c) (λ w. q .1 .entry w c) [] (λ w u i. r .grow .entry w c u i) (acts c ds) (h .tells c)))
+            | inr d ↦ tells-else (q .0) b (uses v (q .0)) (is (q .0)) (q .1) (keeps (r .grow)) c (λ w u i. r .grow .entry w c u i) d
+          ])
         where
-          q : ℕ × Form
-          q = read (depth g) g v b s
-
-          own : (c w : ℕ) → (b ≡ c) ⊎ (b ≢ c) → q .1 .own w c ≡ cur (λ u. none) (acts c ds ++ act c (said (q .0))) w
-          own c w (inl e) = r .grow .own w c ∙ h .own c w ∙ sym (cur-here (q .0) b (uses v (q .0)) (is (q .0)) c w e)
-          own c w (inr d) = r .grow .own w c ∙ h .own c w ∙ sym (cur-else (q .0) b (uses v (q .0)) (is (q .0)) c w d)
-
           stands : (c : ℕ) → b ≡ c → cur (λ w. q .1 .entry w c) (acts c ds) v ≡ some (r .o)
           stands c e = cur-or (λ w. q .1 .entry w c) (acts c ds) (λ w. none) v ∙ ap (λ (z : Option ℕ). orElse z (q .1 .entry v c)) (sym (r .grow .own v c ∙ h .own c v)) ∙ ap (def (q .1) v) (sym e) ∙ r .recorded
-
-          tells : (c : ℕ) → (b ≡ c) ⊎ (b ≢ c) → Tells (q .1) c (λ w. q .1 .entry w c) [] (acts c ds ++ act c (said (q .0)))
-          tells c (inl e) = tells-here (q .0) b (uses v (q .0)) (is (q .0)) (q .1) c e
-              (tells-uses (q .1) c (λ w. q .1 .entry w c) [] v (q .0) (acts c ds) (r .o, stands c e, r .alike)
-              (tells-mono s (q .1) (keeps (r .grow)) c (λ w. s .entry w c) (λ w. q .1 .entry w c) [] (λ w u i. r .grow .entry w c u i) (acts c ds) (h .tells c)))
-          tells c (inr d) = tells-else (q .0) b (uses v (q .0)) (is (q .0)) (q .1) (keeps (r .grow)) c (λ w u i. r .grow .entry w c u i) d
 
   -- sealing several
   record Each (g₀ : Graph) (s₀ : Form) (r : Graph × Form) : Type 0 where
@@ -414,7 +350,7 @@ module _ (E : Type 0) (g : Graph) (s : Form) (ds : List Done) (h : Whole E g s d
   each : (bs : List ℕ) (g₀ : Graph) (s₀ : Form) (kp : ℕ → List ℕ) → Inv g₀ E s₀ kp idle → Sound g₀ → Each g₀ s₀ (seal-each bs g₀ s₀)
   each [] g₀ s₀ kp i G = record { kp = kp; inv = i; sound = G; grow = grow-refl s₀; preds = λ b p j. j }
   each (b ∷ bs) g₀ s₀ kp i G = by (g₀ .sealed b) refl (each bs g₀ s₀ kp i G) (λ e. let r = sealed-one g₀ E s₀ kp i b e G in
-      each bs (mark-sealed g₀ b) (seal-form g₀ s₀ b) (r .kp) (r .inv) (record { range = G .range; nodup = G .nodup; inside = G .inside; names = G .names }))
+      each bs (mark-sealed g₀ b) (seal-form g₀ s₀ b) (r .kp) (r .inv) (sound-sealed g₀ b G))
     where
       by : (z : Bool) → g₀ .sealed b ≡ z → Each g₀ s₀ (seal-each bs g₀ s₀) → (g₀ .sealed b ≡ false → Each (mark-sealed g₀ b) (seal-form g₀ s₀ b) (seal-each bs (mark-sealed g₀ b) (seal-form g₀ s₀ b)))
           → Each g₀ s₀ (elim z as (λ _. Graph × Form) [ true ↦ seal-each bs g₀ s₀ | false ↦ seal-each bs (mark-sealed g₀ b) (seal-form g₀ s₀ b) ])

@@ -9,14 +9,6 @@ use lib.ListN.{length}
 use Rattle.definition.specs.Base.{_=?_, if_then_else_}
 use Rattle.definition.specs.Form.{Graph, Form, Sort, made, param, nought}
 
--- Every parameter and every zero ever made has a cause, also once it became an alias.
-pub record Caused (g : Graph) (s : Form) : Type 0 where
-  -- a parameter is what the entry of a variable records in its block
-  pub param-of : (x : ℕ) → x < s .next → s .info x .sort ≡ param → (v : ℕ) × (v < length (g .types)) × (s .entry v (s .info x .home) ≡ some x)
-  -- a zero is what a parameter of its block is an alias of
-  pub zero-of : (z : ℕ) → z < s .next → s .info z .sort ≡ nought
-      → (x : ℕ) × (x < s .next) × (s .info x .sort ≡ param) × (s .info x .home ≡ s .info z .home) × (s .target x ≡ z)
-
 abbrev pub is-sort : Sort → Sort → Bool
 is-sort made made = true
 is-sort made param = false

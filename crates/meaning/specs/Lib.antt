@@ -1,7 +1,11 @@
 pub mod Path
 pub mod Machine
-pub mod Causes
+pub mod Rooms
+pub mod Stored
+pub mod Enough
 pub mod Turns
 pub mod Trace
 pub mod Suppositions
 pub mod Needed
+pub mod Causes
+pub mod Answers

@@ -1,15 +1,14 @@
 -- What a finished session means on a path, and demand 3.
 -- Assumes nothing.
-use Prim.Native.Nat.{ℕ, zero, suc, _+_, _<_}
-use mathlib.Core.Path.{_≡_, refl}
-use mathlib.Core.Logic.{_≢_, _⊎_, inl, inr}
-use mathlib.Core.Bool.{Bool, true, false, not, cond, _&&_, _||_}
-use mathlib.Core.Option.{Option, none, some}
+use Prim.Native.Nat.{ℕ, _<_}
+use mathlib.Core.Path.{_≡_}
+use mathlib.Core.Logic.{_⊎_}
+use mathlib.Core.Bool.{Bool, true, false, cond, _&&_, _||_}
 use mathlib.Core.List.{List, [], _∷_, _++_}
 use lib.Dec.{eqb}
 use lib.ListN.{length, getD}
 use Rattle.definition.specs.Base.{put}
-use Rattle.definition.specs.Form.{Graph, Form, Info, Sort, made, param, nought, def}
+use Rattle.definition.specs.Form.{Sort, made, param, nought}
 use Rattle.definition.specs.Read.{resolve, type-of}
 use Rattle.definition.specs.Session.{Call, Done, State, session}
 

@@ -1,14 +1,17 @@
--- How many calls one run of the machine schedules, and what it ends with. The first visit of a use is no scheduled call.
+-- What a run of the machine does: the calls that it schedules, the results that it holds, what it ends with. The first visit of a use is no scheduled call.
 -- Assumes nothing.
 use Prim.Native.Nat.{ℕ, zero, suc, _+_, _<_, _≤_}
 use mathlib.Core.Path.{_≡_}
 use mathlib.Core.Bool.{false}
 use mathlib.Core.List.{List, [], _∷_, _++_}
 use lib.ListN.{length}
-use Rattle.entity.specs.Limits.{limits, call-room}
+use Rattle.entity.specs.Limits.{limits, call-room, result-room}
 use Rattle.definition.specs.Form.{Graph, Form, def}
 use Rattle.definition.specs.Read.{Got, fill, read, depth, set-pending, settle-pending}
 use Rattle.definition.specs.Session.{mark-sealed}
+use Rattle.meaning.specs.Rooms.{Rooms}
+use Rattle.meaning.specs.Stored.{Stored}
+use Rattle.meaning.specs.Enough.{Enough}
 use Rattle.meaning.specs.Machine.{Task, Conf, conf, schedule, visit, turn, turns}
 
 -- a turn takes the call on top off the stack, if there is one
@@ -26,6 +29,12 @@ pub record Run (g : Graph) (v : ℕ) (c : Conf) (r : Got) : Type 0 where
   -- Each turn takes one scheduled call off. So what was taken off and what still stands there is all that was scheduled up to then:
   -- at most `call-room limits` calls are scheduled in a run.
   pub calls : (n : ℕ) → taken n g v c + length (turns n g v c .tasks) ≤ call-room limits
+  -- At no moment more than `result-room limits` results are held, and at every moment the tables fit their rooms, what they hold names what is there,
+  -- and no bound of the definition is met.
+  pub results : (n : ℕ) → length (turns n g v c .results) ≤ result-room limits
+  pub rooms : (n : ℕ) → Rooms g (turns n g v c .form)
+  pub stored : (n : ℕ) → Stored g (turns n g v c .form)
+  pub enough : (n : ℕ) → Enough g (turns n g v c .form)
   -- And that many turns are enough: they end with exactly the recursion's answer, and no call is left.
   pub answer : (n : ℕ) → call-room limits ≤ n → turns n g v c ≡ conf [] (r .0 ∷ []) (r .1)
 

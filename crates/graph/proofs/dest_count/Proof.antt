@@ -11,7 +11,7 @@ returns : tie.Need-returns
 returns c =
     let p = c .before .before .before .pre in
     let at = c .before .dests-of .ensures in
-    (omega (arith, row-count _ _ _ _ (dests-row (p .0 .1) _ (p .1) at), p .0 .1 .bounds .eight (c .before .before .before .args .branch .0)), λ g s. row-count _ _ _ _ (dests-row s _ (p .1) at))
+    (omega (arith, row-count _ _ _ _ (dests-row (p .0 .1) _ (p .1) at), p .0 .1 .bounds .dests (c .before .before .before .args .branch .0)), λ g s. row-count _ _ _ _ (dests-row s _ (p .1) at))
 
 pub dest-count-spec : {M : Type 1} → statement M
 dest-count-spec =

@@ -1,0 +1,93 @@
+-- What is proved of the definition, one theorem after the other, each with the file that proves it. Their words are in specs/. Assumes nothing.
+use Prim.Native.Nat.{ℕ, _<_}
+use mathlib.Core.Path.{_≡_}
+use mathlib.Core.Bool.{true}
+use mathlib.Core.List.{List}
+use lib.ListN.{length, getD}
+use Rattle.definition.specs.Session.{Call, session, seal-each}
+use Rattle.definition.specs.Resolve.{Resolved, targets, ends}
+use Rattle.definition.specs.Read.{resolve}
+use Rattle.definition.specs.Base.{_∷ʳ_}
+use Rattle.meaning.specs.Path.{Supposed, In, Faithful, Fed}
+use Rattle.meaning.specs.Turns.{Scheduled}
+use Rattle.meaning.specs.Answers.{Answered}
+use Rattle.meaning.specs.Stored.{Stored}
+use Rattle.meaning.specs.Rooms.{Rooms}
+use Rattle.meaning.specs.Causes.{Once}
+use Rattle.meaning.specs.Enough.{Enough}
+use Rattle.meaning.proofs.Chains.{resolved-same, chains-end}
+use Rattle.meaning.proofs.Rooms.{fed-always, rooms}
+use Rattle.meaning.proofs.Steady.{calls-count, logged}
+use Rattle.meaning.proofs.Turns.{scheduled, scheduled-all}
+use Rattle.meaning.proofs.Enough.{enough}
+use Rattle.meaning.proofs.Causes.{once}
+use Rattle.meaning.proofs.Stored.{stored}
+use Rattle.meaning.proofs.Demand.{demand-3}
+use Rattle.meaning.proofs.Answers.{answered-one}
+
+-- ---- demand 3
+
+-- On every path each use's answer, aliases resolved, holds what its variable last received, or zero; and every destination has an argument for each parameter
+-- of its block. Supposed is what `Supposed` lists.
+pub answers-hold : (cs : List Call) → Supposed (session cs)
+    → ((W : Type 0) (null : ℕ → W) → Faithful W null (session cs)) × Fed (session cs)
+answers-hold = demand-3
+
+-- ---- the machine
+
+-- The stack machine does what the recursion does, for a use and for each pending variable of a seal: it ends with the recursion's answer. One run schedules
+-- at most `call-room limits` calls. At every moment of it at most `result-room limits` results are held, the tables fit their rooms and what they hold names
+-- what is there.
+pub machine-is-recursion : (cs : List Call) → Scheduled (session cs .graph) (session cs .form)
+machine-is-recursion = scheduled
+
+-- So it is in `seal_all_blocks`, once the blocks bs are sealed.
+pub machine-is-recursion-in-turn : (cs : List Call) (bs : List ℕ) → ((b : ℕ) → In b bs → b < session cs .graph .blocks)
+    → let r = seal-each bs (session cs .graph) (session cs .form) in Scheduled (r .0) (r .1)
+machine-is-recursion-in-turn = scheduled-all
+
+-- ---- after every list of calls
+
+-- No table needs more than its room.
+pub rooms-suffice : (cs : List Call) → Rooms (session cs .graph) (session cs .form)
+rooms-suffice = rooms
+
+-- Every number that a table holds names something that is there.
+pub numbers-named : (cs : List Call) → Stored (session cs .graph) (session cs .form)
+numbers-named = stored
+
+-- A zero was logged by a call of the list.
+pub zeros-logged : (cs : List Call) (z : ℕ × ℕ) → In z (session cs .form .zeros) → z .0 < length cs
+zeros-logged = logged
+
+-- A variable causes at most one parameter and one zero per block.
+pub causes-once : (cs : List Call) → Once (session cs .graph) (session cs .form)
+causes-once = once
+
+-- Each destination of a declared predecessor of a sealed block has as many arguments as the block has parameters.
+pub arguments-match : (cs : List Call) (p i : ℕ) → let g = session cs .graph in
+    let b = getD (g .dests p) i 0 in
+    i < length (g .dests p) → g .sealed b ≡ true → In p (g .preds b) → length (session cs .form .args p i) ≡ length (session cs .form .params b)
+arguments-match = fed-always
+
+-- Every chain of aliases ends, and the definition resolves as the public resolving does: with code 0 and the end of the chain.
+pub chains-resolve : (cs : List Call) (x : ℕ) → x < session cs .form .next → Resolved (targets (session cs .form)) x 0 (resolve (session cs .form) x)
+chains-resolve cs x l = ends (chains-end cs x l)
+
+-- Resolving has one answer, over any list.
+pub resolving-determined : (ts : List ℕ) (x k n l m : ℕ) → Resolved ts x k n → Resolved ts x l m → (k ≡ l) × (n ≡ m)
+resolving-determined = resolved-same
+
+-- The bounds that the definition computes with are never met: a greater depth of reading, a longer walk, more links change nothing.
+pub bounds-suffice : (cs : List Call) → Enough (session cs .graph) (session cs .form)
+bounds-suffice = enough
+
+-- ---- calls and answers
+
+-- Every call gets one answer and is counted. A refused call changes nothing else.
+pub one-answer : (cs : List Call) (c : Call) → Answered (session cs) c (session (cs ∷ʳ c))
+one-answer = answered-one
+
+-- So as many calls are counted, and as many answers given, as there are calls.
+pub all-answered : (cs : List Call) → (session cs .graph .call ≡ length cs) × (length (session cs .done) ≡ length cs)
+all-answered = calls-count
