@@ -3,106 +3,70 @@
 -- Assumes nothing.
 use Prim.Native.Nat.{ℕ}
 use mathlib.Core.Path.{_≡_, refl}
-use mathlib.Core.List.{List, [], _∷_, map}
+use mathlib.Core.List.{List, [], _∷_, _++_, map}
 use Rattle.definition.specs.Session.{Call, session}
-use Rattle.definition.specs.Calls.{block, variable, value, define, use-var, branch, dest, pred, unpred, seal, seal-all, i32}
+use Rattle.definition.specs.Calls.{declare-var, define, use-var, drop-pred, seal, seal-all, blocks, sets, jumps, i32}
 use Rattle.definition.specs.Tables.{Tables, tables}
 
 pub cases : List (List Call)
 cases =
     -- A. Sealed block 0, use: value 0 is a parameter, aliased to zero 1; answer 1. A second use answers 0.
     (
-    block 0 ∷ variable 0 i32 ∷
-    seal 0 ∷ use-var 0 0 ∷ use-var 0 0 ∷
-    []
+    blocks 1 ++ declare-var 0 i32 ∷ seal 0 ∷ use-var 0 0 ∷ use-var 0 0 ∷ []
     ) ∷
     -- B. Block 0 unsealed, use: answer 0. Sealing then answers 1.
     (
-    block 0 ∷ variable 0 i32 ∷
-    use-var 0 0 ∷ seal 0 ∷
-    []
+    blocks 1 ++ declare-var 0 i32 ∷ use-var 0 0 ∷ seal 0 ∷ []
     ) ∷
     -- C. Diamond 0 to 1, 2 to 3; values 0 in 1 and 1 in 2: use in 3 answers 2, arguments [0] and [1].
     (
-    block 0 ∷ block 1 ∷ block 2 ∷ block 3 ∷ variable 0 i32 ∷
-    value 1 i32 ∷ define 0 0 1 ∷ value 2 i32 ∷ define 0 1 2 ∷
-    branch 0 ∷ dest 0 1 ∷ dest 0 2 ∷ pred 1 0 ∷ pred 2 0 ∷
-    branch 1 ∷ dest 1 3 ∷ pred 3 1 ∷ branch 2 ∷ dest 2 3 ∷ pred 3 2 ∷ seal-all ∷
-    use-var 0 3 ∷
-    []
+    blocks 4 ++ declare-var 0 i32 ∷ [] ++ sets 0 i32 0 1 ++ sets 0 i32 1 2 ++ jumps 0 (1 ∷ 2 ∷ [])
+    ++ jumps 1 (3 ∷ []) ++ jumps 2 (3 ∷ []) ++ seal-all ∷ use-var 0 3 ∷ []
     ) ∷
     -- D. Value 0 defined in 0, value 1 in block 1: answer 2, arguments [1] and [0]; block 2 now records 0.
     (
-    block 0 ∷ block 1 ∷ block 2 ∷ block 3 ∷ variable 0 i32 ∷
-    value 0 i32 ∷ define 0 0 0 ∷ value 1 i32 ∷ define 0 1 1 ∷
-    branch 0 ∷ dest 0 1 ∷ dest 0 2 ∷ pred 1 0 ∷ pred 2 0 ∷
-    branch 1 ∷ dest 1 3 ∷ pred 3 1 ∷ branch 2 ∷ dest 2 3 ∷ pred 3 2 ∷ seal-all ∷
-    use-var 0 3 ∷
-    []
+    blocks 4 ++ declare-var 0 i32 ∷ [] ++ sets 0 i32 0 0 ++ sets 0 i32 1 1 ++ jumps 0 (1 ∷ 2 ∷ [])
+    ++ jumps 1 (3 ∷ []) ++ jumps 2 (3 ∷ []) ++ seal-all ∷ use-var 0 3 ∷ []
     ) ∷
     -- E. Value 0 in block 0 only: use in 3 answers 0, a second answers 1, an alias of 0. No arguments.
     (
-    block 0 ∷ block 1 ∷ block 2 ∷ block 3 ∷ variable 0 i32 ∷
-    value 0 i32 ∷ define 0 0 0 ∷
-    branch 0 ∷ dest 0 1 ∷ dest 0 2 ∷ pred 1 0 ∷ pred 2 0 ∷
-    branch 1 ∷ dest 1 3 ∷ pred 3 1 ∷ branch 2 ∷ dest 2 3 ∷ pred 3 2 ∷ seal-all ∷
-    use-var 0 3 ∷ use-var 0 3 ∷
-    []
+    blocks 4 ++ declare-var 0 i32 ∷ [] ++ sets 0 i32 0 0 ++ jumps 0 (1 ∷ 2 ∷ []) ++ jumps 1 (3 ∷ [])
+    ++ jumps 2 (3 ∷ []) ++ seal-all ∷ use-var 0 3 ∷ use-var 0 3 ∷ []
     ) ∷
     -- F. Loop: 0 defines value 0; 1 unsealed, its use answers 1; 1 branches to itself; sealing 1 aliases 1 to 0.
     (
-    block 0 ∷ block 1 ∷ variable 0 i32 ∷ value 0 i32 ∷ define 0 0 0 ∷
-    branch 0 ∷ dest 0 1 ∷ pred 1 0 ∷ seal 0 ∷
-    use-var 0 1 ∷
-    branch 1 ∷ dest 1 1 ∷ pred 1 1 ∷ seal 1 ∷
-    []
+    blocks 2 ++ declare-var 0 i32 ∷ [] ++ sets 0 i32 0 0 ++ jumps 0 (1 ∷ []) ++ seal 0 ∷ use-var 0 1 ∷ []
+    ++ jumps 1 (1 ∷ []) ++ seal 1 ∷ []
     ) ∷
     -- G. As F, but 1 then defines value 2: parameter 1 stays; arguments [0] and [2].
     (
-    block 0 ∷ block 1 ∷ variable 0 i32 ∷ value 0 i32 ∷ define 0 0 0 ∷
-    branch 0 ∷ dest 0 1 ∷ pred 1 0 ∷ seal 0 ∷
-    use-var 0 1 ∷ value 1 i32 ∷ define 0 2 1 ∷
-    branch 1 ∷ dest 1 1 ∷ pred 1 1 ∷ seal 1 ∷
-    []
+    blocks 2 ++ declare-var 0 i32 ∷ [] ++ sets 0 i32 0 0 ++ jumps 0 (1 ∷ []) ++ seal 0 ∷ use-var 0 1 ∷ []
+    ++ sets 0 i32 2 1 ++ jumps 1 (1 ∷ []) ++ seal 1 ∷ []
     ) ∷
-    -- H. Block 0's branch names 1 twice; block 2 also enters 1; values 0 in 0, 1 in 2: answer 2; both of 0's destinations hold [0], 2's holds [1].
-    -- Declaring 0's branch to 1 once more gets 12.
+    -- H. Block 0's branch names 1 twice; block 2 also enters 1; values 0 in 0, 1 in 2: answer 2; both of 0's destinations hold [0],
+    -- 2's holds [1]. Declaring 0's branch to 1 a second time gets 12.
     (
-    block 0 ∷ block 1 ∷ block 2 ∷ variable 0 i32 ∷
-    value 0 i32 ∷ define 0 0 0 ∷ value 2 i32 ∷ define 0 1 2 ∷
-    branch 0 ∷ dest 0 1 ∷ dest 0 1 ∷ pred 1 0 ∷ pred 1 0 ∷
-    branch 2 ∷ dest 2 1 ∷ pred 1 2 ∷ seal-all ∷
-    use-var 0 1 ∷
-    []
+    blocks 3 ++ declare-var 0 i32 ∷ [] ++ sets 0 i32 0 0 ++ sets 0 i32 1 2 ++ jumps 0 (1 ∷ 1 ∷ [])
+    ++ jumps 2 (1 ∷ []) ++ seal-all ∷ use-var 0 1 ∷ []
     ) ∷
     -- I. Blocks 1 and 2 each the other's single predecessor, use in 1: parameter 0 on 1, zero 1 there, answer 1.
     (
-    block 0 ∷ block 1 ∷ block 2 ∷ variable 0 i32 ∷
-    branch 1 ∷ dest 1 2 ∷ pred 2 1 ∷ branch 2 ∷ dest 2 1 ∷ pred 1 2 ∷ seal-all ∷
-    use-var 0 1 ∷
-    []
+    blocks 3 ++ declare-var 0 i32 ∷ [] ++ jumps 1 (2 ∷ []) ++ jumps 2 (1 ∷ []) ++ seal-all ∷ use-var 0 1 ∷ []
     ) ∷
     -- J. Variables 0, 1 given values 0, 1 in block 0; unsealed 1 uses both (2, 3), swaps them, loops: arguments [0, 1] and [3, 2].
     (
-    block 0 ∷ block 1 ∷ variable 0 i32 ∷ variable 1 i32 ∷
-    value 0 i32 ∷ define 0 0 0 ∷ value 0 i32 ∷ define 1 1 0 ∷
-    branch 0 ∷ dest 0 1 ∷ pred 1 0 ∷ seal 0 ∷
-    use-var 0 1 ∷ use-var 1 1 ∷ define 0 3 1 ∷ define 1 2 1 ∷
-    branch 1 ∷ dest 1 1 ∷ pred 1 1 ∷ seal 1 ∷
-    []
+    blocks 2 ++ declare-var 0 i32 ∷ declare-var 1 i32 ∷ [] ++ sets 0 i32 0 0 ++ sets 1 i32 1 0 ++ jumps 0 (1 ∷ [])
+    ++ seal 0 ∷ use-var 0 1 ∷ use-var 1 1 ∷ define 0 3 1 ∷ define 1 2 1 ∷ [] ++ jumps 1 (1 ∷ [])
+    ++ seal 1 ∷ []
     ) ∷
     -- K. Predecessors A, B, C; remove A: C, B.
     (
-    block 0 ∷ block 1 ∷ block 2 ∷ block 3 ∷ variable 0 i32 ∷
-    branch 0 ∷ dest 0 3 ∷ pred 3 0 ∷ branch 1 ∷ dest 1 3 ∷ pred 3 1 ∷ branch 2 ∷ dest 2 3 ∷ pred 3 2 ∷
-    unpred 3 0 ∷
-    []
+    blocks 4 ++ declare-var 0 i32 ∷ [] ++ jumps 0 (3 ∷ []) ++ jumps 1 (3 ∷ []) ++ jumps 2 (3 ∷ [])
+    ++ drop-pred 3 0 ∷ []
     ) ∷
     -- L. Seal twice: second answers code 8.
     (
-    block 0 ∷
-    seal 0 ∷ seal 0 ∷
-    []
+    blocks 1 ++ seal 0 ∷ seal 0 ∷ []
     ) ∷
     []
 

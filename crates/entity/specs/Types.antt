@@ -1,7 +1,7 @@
 -- The six types: their numbers, their widths in bytes, and the bits of their zeros.
 -- Assumes nothing.
 use Prim.Native.Nat.{ℕ}
-use mathlib.Core.List.{[], _∷_}
+use mathlib.Core.List.{List, [], _∷_}
 use lib.ListN.{getD}
 use Rattle.entity.specs.declared.Type.{«Type»}
 use Rattle.entity.specs.declared.Type.the-variants.{I8, I16, I32, I64, F32, F64}
@@ -19,9 +19,13 @@ number-of I64 = 3
 number-of F32 = 4
 number-of F64 = 5
 
+-- in the order of their numbers
+abbrev pub types : List Found
+types = Is I8 ∷ Is I16 ∷ Is I32 ∷ Is I64 ∷ Is F32 ∷ Is F64 ∷ []
+
 -- the type with this number
 abbrev pub type-with : ℕ → Found
-type-with n = getD (Is I8 ∷ Is I16 ∷ Is I32 ∷ Is I64 ∷ Is F32 ∷ Is F64 ∷ []) n Nothing
+type-with n = getD types n Nothing
 
 abbrev pub width-of : «Type» → ℕ
 width-of I8 = 1

@@ -1,7 +1,8 @@
 // The numbers that stand for blocks, variables, values and branches; the types; the limits, and the rooms that follow from them.
 ghost use mathlib.Core.Path.{_≡_};
-ghost use Rattle.entity.specs.Limits.{limits};
-ghost use Rattle.entity.specs.Types.{number-of, type-with, width-of, zero-of};
+ghost use lib.Dec.{ltb};
+ghost use Rattle.entity.specs.Host.{In-force, Needed};
+ghost use Rattle.entity.specs.Types.{number-of, type-count, type-with, width-of, zero-of};
 
 // Four kinds of number, each a type of its own, so that one can't be taken for another.
 pub struct Block(pub u32);
@@ -30,6 +31,13 @@ pub enum Found {
 
 impl Type {
     pub const COUNT: u32 = 6;
+
+    // Does this number name a type? The types are numbered from 0, without a gap.
+    pub fn known(n: u32) -> bool
+        ensures { λ r. ⌜ r ≡ ltb n type-count ⌝ }
+    {
+        n < Type::COUNT
+    }
 
     pub fn from_number(n: u32) -> Found
         ensures { λ r. ⌜ r ≡ type-with n ⌝ }
@@ -98,15 +106,99 @@ pub const MADE: u32 = 4096;
 
 pub const CALLS: u32 = 16384;
 
-// The rooms that follow, as specs/Limits.antt works them out.
-pub const ZERO_ROOM: usize = (BLOCKS * VARIABLES) as usize;
+// The rooms that follow, as specs/Limits.antt works them out and says why.
+pub const ZERO_ROOM: usize = BLOCKS as usize * VARIABLES as usize;
 
-pub const VALUE_ROOM: usize = (MADE as usize) + 2 * ZERO_ROOM;
+pub const VALUE_ROOM: usize = MADE as usize + 2 * ZERO_ROOM;
 
 pub const PARAM_ROOM: usize = VARIABLES as usize;
 
 pub const PRED_ROOM: usize = BLOCKS as usize;
 
-pub const CALL_ROOM: usize = (BLOCKS * (DESTS + 1)) as usize;
+pub const CALL_ROOM: usize = BLOCKS as usize * (1 + DESTS as usize);
 
-pub const RESULT_ROOM: usize = (BLOCKS * DESTS + 1) as usize;
+pub const RESULT_ROOM: usize = 1 + BLOCKS as usize * DESTS as usize;
+
+// A row that holds a list: its count, then its entries.
+pub const TYPE_ROW: usize = 1 + VARIABLES as usize;
+
+pub const DEST_ROW: usize = 1 + DESTS as usize;
+
+pub const ZERO_ROW: usize = 1 + ZERO_ROOM;
+
+pub const PARAM_ROW: usize = 1 + PARAM_ROOM;
+
+pub const PRED_ROW: usize = 1 + PRED_ROOM;
+
+// The cells that each of the three lent tables needs.
+pub const GRAPH_NEED: usize = 1
+    + TYPE_ROW
+    + BLOCKS as usize
+    + BLOCKS as usize
+    + BLOCKS as usize * DEST_ROW
+    + BLOCKS as usize * PRED_ROW;
+
+pub const FORM_NEED: usize = 2
+    + 4 * VALUE_ROOM
+    + PRED_ROW
+    + 2 * ZERO_ROW
+    + BLOCKS as usize * PARAM_ROW
+    + BLOCKS as usize * PARAM_ROW
+    + VARIABLES as usize * BLOCKS as usize
+    + BLOCKS as usize * (DESTS as usize * PARAM_ROW);
+
+pub const WORK_NEED: usize = 2 * CALL_ROOM + RESULT_ROOM;
+
+pub struct Limits {
+    pub blocks: u32,
+    pub variables: u32,
+    pub dests: u32,
+    pub made: u32,
+    pub calls: u32,
+}
+
+impl Limits {
+    // Tells a host what a session takes.
+    pub fn in_force() -> Limits
+        ensures { λ r. ⌜ In-force r ⌝ }
+    {
+        Limits {
+            blocks: BLOCKS,
+            variables: VARIABLES,
+            dests: DESTS,
+            made: MADE,
+            calls: CALLS,
+        }
+    }
+}
+
+pub struct Rooms {
+    pub values: usize,
+    pub zeros: usize,
+    pub params: usize,
+    pub preds: usize,
+    pub calls: usize,
+    pub results: usize,
+    pub graph: usize,
+    pub form: usize,
+    pub work: usize,
+}
+
+impl Rooms {
+    // Tells a host how long its tables must be.
+    pub fn needed() -> Rooms
+        ensures { λ r. ⌜ Needed r ⌝ }
+    {
+        Rooms {
+            values: VALUE_ROOM,
+            zeros: ZERO_ROOM,
+            params: PARAM_ROOM,
+            preds: PRED_ROOM,
+            calls: CALL_ROOM,
+            results: RESULT_ROOM,
+            graph: GRAPH_NEED,
+            form: FORM_NEED,
+            work: WORK_NEED,
+        }
+    }
+}

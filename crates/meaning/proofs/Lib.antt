@@ -1,3 +1,5 @@
+pub mod Agree
+pub mod Against
 pub mod Maps
 pub mod Alias
 pub mod Facts
@@ -33,5 +35,9 @@ pub mod Stored
 pub mod Steady
 pub mod Holds
 pub mod Turns
+pub mod Decide
+pub mod Suppositions
+pub mod Trace
+pub mod Needed
 pub mod Answers
 pub mod Theorems

@@ -12,7 +12,7 @@ T-true : (b : Bool) → T b → b ≡ true
 T-true true h = refl
 T-true false h = absurd h
 
-true-T : (b : Bool) → b ≡ true → T b
+pub true-T : (b : Bool) → b ≡ true → T b
 true-T b e = subst (λ (c : Bool). T c) (sym e) tt
 
 pub false-true : {b : Bool} → b ≡ false → b ≡ true → ⊥

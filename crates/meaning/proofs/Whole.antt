@@ -63,11 +63,11 @@ module _ (E : Type 0) (g : Graph) (s : Form) (ds : List Done) (h : Whole E g s d
       on b p old (inl j) = let k = old j in (k .0, in-left (k .0) ds (d ∷ []) (k .1), k .2)
       on b p old (inr e) = (d, in-right d ds (d ∷ []) (inl refl), e)
 
-some-no : (f : ℕ → Bool) (l : List ℕ) → any f l ≡ false → (x : ℕ) → In x l → f x ≡ false
+pub some-no : (f : ℕ → Bool) (l : List ℕ) → any f l ≡ false → (x : ℕ) → In x l → f x ≡ false
 some-no f (y ∷ l) e x (inl k) = ap f k ∙ or-no (f y) (any f l) e .0
 some-no f (y ∷ l) e x (inr i) = some-no f l (or-no (f y) (any f l) e .1) x i
 
-up-in : (n i b : ℕ) → i ≤ b → b < i + n → In b (upFrom i n)
+pub up-in : (n i b : ℕ) → i ≤ b → b < i + n → In b (upFrom i n)
 up-in zero i b lo hi = absurd (omega arith)
 up-in (suc n) i b lo hi = elim (same? b i) [ inl e ↦ inl e | inr d ↦ inr (up-in n (suc i) b (omega arith) (omega arith)) ]
 

@@ -6,4 +6,7 @@ pub mod Enough
 pub mod Causes
 pub mod Holds
 pub mod Turns
+pub mod Trace
+pub mod Suppositions
+pub mod Needed
 pub mod Answers

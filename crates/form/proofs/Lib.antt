@@ -1,0 +1,4 @@
+pub mod Values
+pub mod Params
+pub mod Variables
+pub mod Logs

@@ -1,0 +1,14 @@
+-- `value_type` meets its contract: the cell read is that of the value's type.
+-- Assumes nothing.
+use borrow.Author.Needs.{needs}
+use Rattle.form.proofs.Values.{type-is}
+use Rattle.form.proofs.value_type.Statement.{statement}
+use Rattle.form.proofs.value_type.Tie as tie
+
+returns : tie.Need-returns
+returns c = λ s p. type-is _ s _ p
+
+pub value-type-spec : {M : Type 1} → statement M
+value-type-spec =
+    tie.close (tie.spec
+    (λ c. search needs) (λ c. search needs) (λ c. search needs) (λ c. search needs) returns)

@@ -1,0 +1,250 @@
+// The form in lent cells: every read and every change of it. Nothing above this crate mentions its cells.
+ghost use mathlib.Core.Path.{_≡_};
+ghost use mathlib.Core.List.{List, [], _∷_};
+ghost use Prim.Native.Nat.{ℕ, suc, _<_, _≤_};
+ghost use lib.ListN.{length};
+ghost use Rattle.entity.specs.Limits.{limits, value-room, param-room};
+ghost use Rattle.definition.specs.Base.{put, put₂, _∷ʳ_, has, without};
+ghost use Rattle.definition.specs.Form.{Form, Sort, param, def, with-makes, with-target, with-args};
+ghost use Rattle.definition.specs.Read.{make as made-of, set-params, wait, log-zero, place-block};
+ghost use Rattle.definition.specs.Tables.{sort-number, plus-one};
+ghost use Rattle.layout.specs.Counts.{more};
+ghost use Rattle.layout.specs.Layout.{Shows};
+ghost use Rattle.form.specs.Can.{Cells, Ex, Can-make, Can-count, Has-value, Can-append, Has-params, Next-param, Can-feed};
+ghost use Rattle.form.specs.Can.{Has-def, Recorded, Can-wait, Has-pending, Lists, Taken, Can-log, Has-placed, Can-place};
+use entity::Block;
+use entity::Branch;
+use entity::PARAM_ROW;
+use entity::Value;
+use entity::Variable;
+use layout::ARGS;
+use layout::BLOCK;
+use layout::Counts;
+use layout::DEFS;
+use layout::MADE_COUNT;
+use layout::PARAMS;
+use layout::PENDING;
+use layout::PLACED;
+use layout::SORT;
+use layout::TARGET;
+use layout::TYPE;
+use layout::VALUE_COUNT;
+use layout::ZERO_BLOCKS;
+use layout::ZERO_CALLS;
+
+// The sorts of values: made by the caller, a parameter of a block, a zero where nothing was defined.
+pub const MADE: u32 = 0;
+
+pub const PARAM: u32 = 1;
+
+pub const ZERO: u32 = 2;
+
+// The next value. It is its own alias target until it becomes another name.
+pub fn make(form: &mut [u32], c: Counts, sort: u32, ty: u32, block: Block) -> Counts
+    requires { ⌜ Ex (Can-make (now form) c) ⌝ }
+    ensures { λ r. ⌜ (r ≡ more c) × ((s : Form) → Can-make (now (form .entry)) c s → (k : Sort) → sort ≡ sort-number k
+        → Shows (now (form .exit)) (more c) (made-of k ty (block .0) s)) ⌝ }
+{
+    let n = c.values;
+    let i = n as usize;
+    form[SORT + i] = sort;
+    form[TYPE + i] = ty;
+    form[BLOCK + i] = block.0;
+    form[TARGET + i] = n;
+    form[VALUE_COUNT] = n + 1;
+    c.allot()
+}
+
+// One more value that the caller made, who may make only so many.
+pub fn count_made(form: &mut [u32])
+    requires { ⌜ Ex (Can-count (now form)) ⌝ }
+    ensures { λ r. ⌜ ((s : Form) → Can-count (now (form .entry)) s → Cells (now (form .exit)) (with-makes s (suc (s .makes)))) ⌝ }
+{
+    form[MADE_COUNT] = form[MADE_COUNT] + 1;
+}
+
+pub fn made_count(form: &[u32]) -> u32
+    requires { ⌜ Ex (Cells (now form)) ⌝ }
+    ensures { λ r. ⌜ ((s : Form) → Cells (now (form .entry)) s → r ≡ s .makes) ⌝ }
+{
+    form[MADE_COUNT]
+}
+
+pub fn value_type(form: &[u32], val: Value) -> u32
+    requires { ⌜ Ex (Has-value (now form) (val .0)) ⌝ }
+    ensures { λ r. ⌜ ((s : Form) → Has-value (now (form .entry)) (val .0) s → r ≡ s .info (val .0) .type) ⌝ }
+{
+    let i = val.0 as usize;
+    form[TYPE + i]
+}
+
+// How many zeros the log has.
+pub fn zero_count(form: &[u32]) -> u32
+    requires { ⌜ Ex (Cells (now form)) ⌝ }
+    ensures { λ r. ⌜ ((s : Form) → Cells (now (form .entry)) s → r ≡ length (s .zeros)) ⌝ }
+{
+    form[ZERO_CALLS]
+}
+
+// The next value, as the block's last parameter.
+pub fn append_block_param(form: &mut [u32], c: Counts, block: Block, ty: u32) -> Counts
+    requires { ⌜ Ex (Can-append (now form) c (block .0)) ⌝ }
+    ensures { λ r. ⌜ (r ≡ more c) × ((s : Form) → Can-append (now (form .entry)) c (block .0) s
+        → Shows (now (form .exit)) (more c) (set-params (block .0) (s .params (block .0) ∷ʳ s .next) (made-of param ty (block .0) s))) ⌝ }
+{
+    let b = block.0 as usize;
+    let n = c.values;
+    let d = make(form, c, PARAM, ty, block);
+    rows::push(form, PARAMS + b * PARAM_ROW, n);
+    d
+}
+
+// The parameter leaves its block's list; the others keep their order.
+pub fn remove_block_param(form: &mut [u32], block: Block, val: Value)
+    requires { ⌜ Ex (Has-params (now form) (block .0)) ⌝ }
+    ensures { λ r. ⌜ ((s : Form) → Has-params (now (form .entry)) (block .0) s
+        → Cells (now (form .exit)) (set-params (block .0) (without (val .0) (s .params (block .0))) s)) ⌝ }
+{
+    let b = block.0 as usize;
+    rows::remove(form, PARAMS + b * PARAM_ROW, val.0);
+}
+
+// The value becomes another name.
+pub fn change_to_alias(form: &mut [u32], val: Value, to: Value)
+    requires { ⌜ Ex (Has-value (now form) (val .0)) ⌝ }
+    ensures { λ r. ⌜ ((s : Form) → Has-value (now (form .entry)) (val .0) s → Cells (now (form .exit)) (with-target s (put (val .0) (to .0) (s .target)))) ⌝ }
+{
+    let i = val.0 as usize;
+    form[TARGET + i] = to.0;
+}
+
+// The definition of the variable in the block plus one; 0 for none.
+pub fn definition(form: &[u32], var: Variable, block: Block) -> u32
+    requires { ⌜ Ex (Has-def (now form) (var .0) (block .0)) ⌝ }
+    ensures { λ r. ⌜ ((s : Form) → Has-def (now (form .entry)) (var .0) (block .0) s → r ≡ plus-one (def s (var .0) (block .0))) ⌝ }
+{
+    let v = var.0 as usize;
+    let b = block.0 as usize;
+    form[DEFS + (v * entity::BLOCKS as usize + b)]
+}
+
+// The value is the definition of the variable in the block.
+pub fn record_def(form: &mut [u32], var: Variable, block: Block, val: Value)
+    requires { ⌜ Ex (Has-def (now form) (var .0) (block .0)) ⌝ }
+    requires { ⌜ val .0 < value-room limits ⌝ }
+    ensures { λ r. ⌜ Recorded (now (form .entry)) (now (form .exit)) (var .0) (block .0) (val .0) ⌝ }
+{
+    let v = var.0 as usize;
+    let b = block.0 as usize;
+    form[DEFS + (v * entity::BLOCKS as usize + b)] = val.0 + 1;
+}
+
+// The variable is pending in the block. Its parameter, any x here, is not stored again: it is found by its place among the block's.
+pub fn push_pending(form: &mut [u32], var: Variable, block: Block)
+    requires { ⌜ Ex (Can-wait (now form) (block .0)) ⌝ }
+    ensures { λ r. ⌜ ((s : Form) → Can-wait (now (form .entry)) (block .0) s → (x : ℕ) → Cells (now (form .exit)) (wait (var .0) (block .0) x s)) ⌝ }
+{
+    let b = block.0 as usize;
+    rows::push(form, PENDING + b * PARAM_ROW, var.0);
+}
+
+pub fn pending_count(form: &[u32], block: Block) -> u32
+    requires { ⌜ Ex (Has-pending (now form) (block .0)) ⌝ }
+    ensures { λ r. ⌜ (r ≤ param-room limits) × ((s : Form) → Has-pending (now (form .entry)) (block .0) s → r ≡ length (s .pending (block .0))) ⌝ }
+{
+    let b = block.0 as usize;
+    form[PENDING + b * PARAM_ROW]
+}
+
+// Copies the block's pending variables to the front of the list.
+fn list_pending(form: &[u32], block: Block, list: &mut [u32]) -> u32
+    requires { ⌜ Ex (Has-pending (now form) (block .0)) ⌝ }
+    requires { ⌜ param-room limits ≤ length (now list) ⌝ }
+    ensures { λ r. ⌜ (r ≤ param-room limits) × ((s : Form) → Has-pending (now (form .entry)) (block .0) s → Lists (now (list .exit)) (block .0) r s) ⌝ }
+{
+    let n = pending_count(form, block);
+    let b = block.0 as usize;
+    let at = PENDING + b * PARAM_ROW;
+    let k = n as usize;
+    let mut i: usize = 0;
+    while i < k {
+        list[i] = form[at + 1 + i];
+        i += 1;
+    }
+    n
+}
+
+// Moves the block's pending variables to the front of the list: settling them may make others pend, in other blocks.
+pub fn take_pending(form: &mut [u32], block: Block, list: &mut [u32]) -> u32
+    requires { ⌜ Ex (Has-pending (now form) (block .0)) ⌝ }
+    requires { ⌜ param-room limits ≤ length (now list) ⌝ }
+    ensures { λ r. ⌜ (r ≤ param-room limits)
+        × ((s : Form) → Has-pending (now (form .entry)) (block .0) s → Taken (now (form .exit)) (now (list .exit)) (block .0) r s) ⌝ }
+{
+    let n = list_pending(form, block, list);
+    let b = block.0 as usize;
+    rows::clear(form, PENDING + b * PARAM_ROW);
+    n
+}
+
+// The parameter of the pending variable that has n - 1 others behind it: settled ones may have left the list, so count from its end.
+pub fn pending_param(form: &[u32], block: Block, n: u32) -> Value
+    requires { ⌜ ((x : ℕ) × Ex (Next-param (now form) (block .0) n x)) ⌝ }
+    ensures { λ r. ⌜ ((x : ℕ) → (s : Form) → Next-param (now (form .entry)) (block .0) n x s → r .0 ≡ x) ⌝ }
+{
+    let b = block.0 as usize;
+    let at = PARAMS + b * PARAM_ROW;
+    let k = (form[at] - n) as usize;
+    Value(form[at + 1 + k])
+}
+
+// This call added a zero in the block.
+pub fn log_zero(form: &mut [u32], c: Counts, block: Block)
+    requires { ⌜ Ex (Can-log (now form)) ⌝ }
+    ensures { λ r. ⌜ ((s : Form) → Can-log (now (form .entry)) s → Cells (now (form .exit)) (log-zero (c .call) (block .0) s)) ⌝ }
+{
+    rows::push(form, ZERO_CALLS, c.call);
+    rows::push(form, ZERO_BLOCKS, block.0);
+}
+
+// Mostly it is the last one placed, so that is tested first: many values in one block cost no search.
+fn is_placed(form: &[u32], block: Block) -> bool
+    requires { ⌜ Ex (Has-placed (now form)) ⌝ }
+    ensures { λ r. ⌜ ((s : Form) → Has-placed (now (form .entry)) s → r ≡ has (block .0) (s .placed)) ⌝ }
+{
+    let b = block.0;
+    let n = form[PLACED] as usize;
+    if n == 0 {
+        return false;
+    }
+    if form[PLACED + n] == b {
+        return true;
+    }
+    rows::has(form, PLACED, b)
+}
+
+// The block is placed after the others, unless it was.
+pub fn place_block(form: &mut [u32], block: Block)
+    requires { ⌜ Ex (Can-place (now form) (block .0)) ⌝ }
+    ensures { λ r. ⌜ ((s : Form) → Can-place (now (form .entry)) (block .0) s → Cells (now (form .exit)) (place-block (block .0) s)) ⌝ }
+{
+    if is_placed(form, block) {
+        return;
+    }
+    rows::push(form, PLACED, block.0);
+}
+
+// The value is the next argument of the branch at one of its destinations.
+pub fn append_argument(form: &mut [u32], branch: Branch, place: u32, val: Value)
+    requires { ⌜ Ex (Can-feed (now form) (branch .0) place) ⌝ }
+    ensures { λ r. ⌜ ((s : Form) → Can-feed (now (form .entry)) (branch .0) place s
+        → Cells (now (form .exit)) (with-args s (put₂ (branch .0) place (s .args (branch .0) place ∷ʳ val .0) (s .args)))) ⌝ }
+{
+    let p = branch.0 as usize;
+    let i = place as usize;
+    rows::push(
+        form,
+        ARGS + (p * entity::DESTS as usize + i) * PARAM_ROW,
+        val.0,
+    );
+}

@@ -1,0 +1,4 @@
+pub mod Cells
+pub mod Declared
+pub mod Changes
+pub mod Session

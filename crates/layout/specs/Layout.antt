@@ -1,0 +1,119 @@
+-- Which table holds what, in the three lent lists: graph, form and work. Sizes follow from the limits.
+-- Assumes nothing.
+use Prim.Native.Nat.{ℕ, suc, _*_, _/_, _%_}
+use mathlib.Core.Path.{_≡_, refl}
+use mathlib.Core.List.{List, [], _∷_, map}
+use lib.ListN.{length}
+use Rattle.entity.specs.Limits.{limits, row-cells, zero-room, value-room, param-room, pred-room, call-room, result-room, graph-need, form-need, work-need}
+use Rattle.definition.specs.Form.{Graph, Form, def}
+use Rattle.definition.specs.Session.{bit}
+use Rattle.definition.specs.Tables.{sort-number, plus-one}
+use Rattle.meaning.specs.Machine.{Task, look, finish}
+use Rattle.layout.specs.declared.Counts.{Counts}
+use Rattle.layout.specs.Cells.{Table, sum, render, Holds, grid, cell, rows, upto, pile}
+
+abbrev pub firsts : List (ℕ × ℕ) → List ℕ
+firsts = map (λ w. w .0)
+
+abbrev pub seconds : List (ℕ × ℕ) → List ℕ
+seconds = map (λ w. w .1)
+
+-- cells of a row: types; destinations; predecessors, also blocks placed; zeros; parameters, also arguments and what is pending
+abbrev pub type-row : ℕ
+type-row = row-cells (limits .variables)
+
+abbrev pub dest-row : ℕ
+dest-row = row-cells (limits .dests)
+
+abbrev pub pred-row : ℕ
+pred-row = row-cells (pred-room limits)
+
+abbrev pub zero-row : ℕ
+zero-row = row-cells (zero-room limits)
+
+abbrev pub param-row : ℕ
+param-row = row-cells (param-room limits)
+
+abbrev pub graph-sizes : List ℕ
+graph-sizes = 1 ∷ type-row ∷ limits .blocks ∷ limits .blocks ∷ limits .blocks * dest-row ∷ limits .blocks * pred-row ∷ []
+
+abbrev pub graph-tables : Graph → List Table
+graph-tables g =
+    (λ i. g .blocks)  -- 0
+    ∷ cell (g .types)  -- 1
+    ∷ (λ b. bit (g .branch b))  -- 2
+    ∷ (λ b. bit (g .sealed b))  -- 3
+    ∷ rows dest-row (g .dests)  -- 4
+    ∷ rows pred-row (g .preds)  -- 5
+    ∷ []
+
+abbrev pub form-sizes : List ℕ
+form-sizes =
+    1 ∷ 1 ∷ value-room limits ∷ value-room limits ∷ value-room limits ∷ value-room limits ∷ pred-row ∷ zero-row ∷ zero-row
+    ∷ limits .blocks * param-row ∷ limits .blocks * param-row
+    ∷ limits .variables * limits .blocks ∷ limits .blocks * (limits .dests * param-row) ∷ []
+
+abbrev pub form-tables : Form → List Table
+form-tables s =
+    (λ i. s .next)  -- 0
+    ∷ (λ i. s .makes)  -- 1
+    ∷ upto (s .next) (s .target)  -- 2
+    ∷ upto (s .next) (λ x. sort-number (s .info x .sort))  -- 3
+    ∷ upto (s .next) (λ x. s .info x .type)  -- 4
+    ∷ upto (s .next) (λ x. s .info x .home)  -- 5
+    ∷ cell (s .placed)  -- 6
+    ∷ cell (firsts (s .zeros))  -- 7: the calls
+    ∷ cell (seconds (s .zeros))  -- 8: the blocks
+    ∷ rows param-row (s .params)  -- 9
+    ∷ rows param-row (λ b. firsts (s .pending b))  -- 10: the variables
+    ∷ grid (limits .blocks) (λ v b. plus-one (def s v b))  -- 11
+    ∷ rows param-row (λ r. s .args (r / limits .dests) (r % limits .dests))  -- 12
+    ∷ []
+
+-- A scheduled call in two cells: 0 and the block to read at; or the parameter plus one and its block.
+abbrev pub task-value : Task → ℕ
+task-value (look p) = 0
+task-value (finish x b) = suc x
+
+abbrev pub task-block : Task → ℕ
+task-block (look p) = p
+task-block (finish x b) = b
+
+abbrev pub work-sizes : List ℕ
+work-sizes = call-room limits ∷ call-room limits ∷ result-room limits ∷ []
+
+abbrev pub work-tables : List Task → List ℕ → List Table
+work-tables ts rs = pile (map task-value ts) ∷ pile (map task-block ts) ∷ pile rs ∷ []
+
+-- the tables fill what each list needs
+graph-fills : sum graph-sizes ≡ graph-need limits
+graph-fills = refl
+
+form-fills : sum form-sizes ≡ form-need limits
+form-fills = refl
+
+work-fills : sum work-sizes ≡ work-need limits
+work-fills = refl
+
+abbrev pub render-graph : Graph → List ℕ
+render-graph g = render graph-sizes (graph-tables g)
+
+abbrev pub render-form : Form → List ℕ
+render-form s = render form-sizes (form-tables s)
+
+abbrev pub render-work : List Task → List ℕ → List ℕ
+render-work ts rs = render work-sizes (work-tables ts rs)
+
+-- The lent cells and the counts show the graph, the form, the stacks.
+pub record Graphs (lent : List ℕ) (c : Counts) (g : Graph) : Type 0 where
+  pub cells : Holds graph-sizes lent (graph-tables g)
+  pub call : c .call ≡ g .call
+
+pub record Shows (lent : List ℕ) (c : Counts) (s : Form) : Type 0 where
+  pub cells : Holds form-sizes lent (form-tables s)
+  pub next : c .values ≡ s .next
+
+pub record Stacks (lent : List ℕ) (c : Counts) (ts : List Task) (rs : List ℕ) : Type 0 where
+  pub cells : Holds work-sizes lent (work-tables ts rs)
+  pub calls : c .calls ≡ length ts
+  pub results : c .results ≡ length rs

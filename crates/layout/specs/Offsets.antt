@@ -1,0 +1,31 @@
+-- Where each table starts at document 01's limits, as numbers.
+-- Assumes nothing.
+use Prim.Native.Nat.{ℕ, suc}
+use mathlib.Core.Path.{_≡_, refl}
+use mathlib.Core.List.{List, [], _∷_, map}
+use lib.ListN.{length}
+use Rattle.definition.specs.Base.{upFrom}
+use Rattle.layout.specs.Cells.{base}
+use Rattle.layout.specs.Layout.{type-row, dest-row, pred-row, zero-row, param-row, graph-sizes, form-sizes, work-sizes}
+
+-- where each table starts, and last where all end: the need
+abbrev pub starts : List ℕ → List ℕ
+starts sizes = map (base sizes) (upFrom 0 (suc (length sizes)))
+
+-- cells of a row of types, destinations, predecessors, zeros, parameters
+widths : type-row ∷ dest-row ∷ pred-row ∷ zero-row ∷ param-row ∷ [] ≡ 65 ∷ 9 ∷ 65 ∷ 4097 ∷ 65 ∷ []
+widths = refl
+
+-- blocks, types, branch marks, sealed marks, destinations, predecessors
+graph-starts : starts graph-sizes ≡ 0 ∷ 1 ∷ 66 ∷ 130 ∷ 194 ∷ 770 ∷ 4930 ∷ []
+graph-starts = refl
+
+-- values, made values, target, sort, type, block, placed, zero calls, zero blocks, parameters, pending variables,
+-- last definitions, arguments
+form-starts : starts form-sizes
+    ≡ 0 ∷ 1 ∷ 2 ∷ 12290 ∷ 24578 ∷ 36866 ∷ 49154 ∷ 49219 ∷ 53316 ∷ 57413 ∷ 61573 ∷ 65733 ∷ 69829 ∷ 103109 ∷ []
+form-starts = refl
+
+-- scheduled calls' values, their blocks, results
+work-starts : starts work-sizes ≡ 0 ∷ 576 ∷ 1152 ∷ 1665 ∷ []
+work-starts = refl

@@ -1,0 +1,157 @@
+// Which lent cell holds what: where each table starts, and the counts that travel beside the cells. The laws are in proofs/.
+ghost use mathlib.Core.Path.{_≡_};
+ghost use Prim.Native.Nat.{_<_, _≤_};
+ghost use Rattle.entity.specs.Limits.{limits, value-room, call-room, result-room};
+ghost use Rattle.layout.specs.Counts.{more, one-call, call-less, one-result, results-less};
+ghost use Rattle.layout.specs.Layout.{graph-sizes, form-sizes, work-sizes};
+ghost use Rattle.layout.specs.Offsets.{starts};
+use entity::Block;
+use entity::Branch;
+use entity::Value;
+
+// Where each table of the graph starts.
+pub const BLOCK_COUNT: usize = 0;
+
+pub const TYPES: usize = BLOCK_COUNT + 1;
+
+pub const BRANCHES: usize = TYPES + entity::TYPE_ROW;
+
+pub const SEALED: usize = BRANCHES + entity::BLOCKS as usize;
+
+pub const DESTS: usize = SEALED + entity::BLOCKS as usize;
+
+pub const PREDS: usize = DESTS + entity::BLOCKS as usize * entity::DEST_ROW;
+
+// Where each table of the form starts.
+pub const VALUE_COUNT: usize = 0;
+
+pub const MADE_COUNT: usize = VALUE_COUNT + 1;
+
+pub const TARGET: usize = MADE_COUNT + 1;
+
+pub const SORT: usize = TARGET + entity::VALUE_ROOM;
+
+pub const TYPE: usize = SORT + entity::VALUE_ROOM;
+
+pub const BLOCK: usize = TYPE + entity::VALUE_ROOM;
+
+pub const PLACED: usize = BLOCK + entity::VALUE_ROOM;
+
+pub const ZERO_CALLS: usize = PLACED + entity::PRED_ROW;
+
+pub const ZERO_BLOCKS: usize = ZERO_CALLS + entity::ZERO_ROW;
+
+pub const PARAMS: usize = ZERO_BLOCKS + entity::ZERO_ROW;
+
+pub const PENDING: usize = PARAMS + entity::BLOCKS as usize * entity::PARAM_ROW;
+
+pub const DEFS: usize = PENDING + entity::BLOCKS as usize * entity::PARAM_ROW;
+
+pub const ARGS: usize = DEFS + (entity::VARIABLES * entity::BLOCKS) as usize;
+
+// Where each table of the work stacks starts.
+pub const CALL_VALUES: usize = 0;
+
+pub const CALL_BLOCKS: usize = CALL_VALUES + entity::CALL_ROOM;
+
+pub const RESULTS: usize = CALL_BLOCKS + entity::CALL_ROOM;
+
+// The starts for a host, and last the need. Their contracts hold each constant above to the sizes that the specs work out.
+pub fn graph_starts() -> [usize; 7]
+    ensures { λ r. ⌜ r ≡ starts graph-sizes ⌝ }
+{
+    [
+        BLOCK_COUNT,
+        TYPES,
+        BRANCHES,
+        SEALED,
+        DESTS,
+        PREDS,
+        entity::GRAPH_NEED,
+    ]
+}
+
+pub fn form_starts() -> [usize; 14]
+    ensures { λ r. ⌜ r ≡ starts form-sizes ⌝ }
+{
+    [
+        VALUE_COUNT,
+        MADE_COUNT,
+        TARGET,
+        SORT,
+        TYPE,
+        BLOCK,
+        PLACED,
+        ZERO_CALLS,
+        ZERO_BLOCKS,
+        PARAMS,
+        PENDING,
+        DEFS,
+        ARGS,
+        entity::FORM_NEED,
+    ]
+}
+
+pub fn work_starts() -> [usize; 4]
+    ensures { λ r. ⌜ r ≡ starts work-sizes ⌝ }
+{
+    [CALL_VALUES, CALL_BLOCKS, RESULTS, entity::WORK_NEED]
+}
+
+// A scheduled call of the lookup machine: read at a branch's block, or settle the parameter of a block by its predecessors' results.
+pub enum Call {
+    UseVar(Branch),
+    FinishPredecessorsLookup(Value, Block),
+}
+
+// How many values there are, the heights of the two work stacks, and the number of this call. They travel by value beside the cells.
+pub struct Counts {
+    pub values: u32,
+    pub calls: u32,
+    pub results: u32,
+    pub call: u32,
+}
+
+impl Counts {
+    // One value more: the caller knows that a variable causes at most one parameter and one zero per block.
+    pub fn allot(mut self) -> Counts
+        requires { ⌜ self .values < value-room limits ⌝ }
+        ensures { λ r. ⌜ r ≡ more self ⌝ }
+    {
+        self.values = self.values + 1;
+        self
+    }
+
+    pub fn push_call(mut self) -> Counts
+        requires { ⌜ self .calls < call-room limits ⌝ }
+        ensures { λ r. ⌜ r ≡ one-call self ⌝ }
+    {
+        self.calls = self.calls + 1;
+        self
+    }
+
+    pub fn pop_call(mut self) -> Counts
+        requires { ⌜ 0 < self .calls ⌝ }
+        ensures { λ r. ⌜ r ≡ call-less self ⌝ }
+    {
+        self.calls = self.calls - 1;
+        self
+    }
+
+    pub fn push_result(mut self) -> Counts
+        requires { ⌜ self .results < result-room limits ⌝ }
+        ensures { λ r. ⌜ r ≡ one-result self ⌝ }
+    {
+        self.results = self.results + 1;
+        self
+    }
+
+    // The results of a block's predecessors leave at once.
+    pub fn pop_results(mut self, n: u32) -> Counts
+        requires { ⌜ n ≤ self .results ⌝ }
+        ensures { λ r. ⌜ r ≡ results-less n self ⌝ }
+    {
+        self.results = self.results - n;
+        self
+    }
+}

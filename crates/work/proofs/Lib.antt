@@ -1,0 +1,2 @@
+pub mod Pops
+pub mod Drops
