@@ -9,10 +9,13 @@ use lib.ListN.{length, getD, length-map}
 use native.Mathlib.Omega.{arith}
 use native.Mathlib.Nat.{not-suc-le-zero}
 use Rattle.definition.specs.Base.{upFrom}
-use Rattle.definition.specs.Form.{Form}
+use Rattle.definition.specs.Form.{Form, Graph}
 use Rattle.definition.specs.Read.{follow, resolve}
 use Rattle.definition.specs.Resolve.{Ends, here, on, Resolved, past, ends, lost, targets}
+use Rattle.meaning.specs.Machine.{Conf}
 use Rattle.meaning.proofs.Alias.{Tree, root-is}
+use Rattle.meaning.proofs.Inv.{Work}
+use Rattle.meaning.proofs.Rooms.{Moment}
 
 -- one walk, one end
 module _ (ts : List ℕ) where
@@ -44,11 +47,11 @@ module _ (ts : List ℕ) where
   resolved-same x k n l m (lost a f) (lost b h) = (refl, refl)
 
 -- the list of targets
-up-length : (i n : ℕ) → length (upFrom i n) ≡ n
+pub up-length : (i n : ℕ) → length (upFrom i n) ≡ n
 up-length i zero = refl
 up-length i (suc n) = ap suc (up-length (suc i) n)
 
-up-at : (f : ℕ → ℕ) (i n x : ℕ) → x < n → getD (map f (upFrom i n)) x 0 ≡ f (i + x)
+pub up-at : (f : ℕ → ℕ) (i n x : ℕ) → x < n → getD (map f (upFrom i n)) x 0 ≡ f (i + x)
 up-at f i zero x l = absurd (not-suc-le-zero l)
 up-at f i (suc n) zero l = ap f (omega arith)
 up-at f i (suc n) (suc x) l = up-at f (suc i) n x (omega arith) ∙ ap f (omega arith)
@@ -74,3 +77,8 @@ module _ (s : Form) (tree : Tree (s .target) (s .next)) (closed : (x : ℕ) → 
 
   pub chain-ends : (x : ℕ) → x < s .next → Ends (targets s) x (resolve s x)
   chain-ends x l = follow-ends (s .next) x l (root-is (s .target) (s .next) x tree)
+
+-- at a moment of a run
+pub chains-end-now : (g : Graph) (v : ℕ) (later : Work) (k : ℕ) (c : Conf) → Moment g v later k c
+    → (x : ℕ) → x < c .form .next → Ends (targets (c .form)) x (resolve (c .form) x)
+chains-end-now g v later k c m = let r = m .now .0 .rest in chain-ends (c .form) (r .inv .aliased .tree) (r .ranged .valued .closed)

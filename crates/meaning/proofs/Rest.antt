@@ -1,5 +1,6 @@
 -- Before and after each use and each seal the form is at rest: each is a run of the machine or several, and every turn keeps what a run starts with. Assumes
 -- nothing.
+pub use Rattle.meaning.proofs.Mid.{Rest}
 use Prim.Native.Nat.{ℕ, zero, suc, _+_, _<_, _≤_}
 use mathlib.Core.Path.{_≡_, refl, sym, _∙_, subst}
 use mathlib.Core.Logic.{inl, inr}
@@ -22,7 +23,7 @@ use Rattle.meaning.proofs.Machine.{does, fills}
 use Rattle.meaning.proofs.Load.{waiting-put}
 use Rattle.meaning.proofs.Ranges.{Bounds}
 use Rattle.meaning.proofs.Lacking.{all-fewer}
-use Rattle.meaning.proofs.Mid.{Now, looks-on, goes-now, Rest}
+use Rattle.meaning.proofs.Mid.{Now, looks-on, goes-now}
 use Rattle.meaning.proofs.Inv.{Work}
 
 module _ (g : Graph) (G : Sound g) (B : Bounds g) where
