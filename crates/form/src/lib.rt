@@ -194,7 +194,8 @@ pub fn pending_param(form: &[u32], block: Block, n: u32) -> Value
 {
     let b = block.0 as usize;
     let at = PARAMS + b * PARAM_ROW;
-    let k = (form[at] - n) as usize;
+    let count = form[at];
+    let k = (count - n) as usize;
     Value(form[at + 1 + k])
 }
 

@@ -3,7 +3,9 @@ pub mod Rows
 pub mod Grids
 pub mod Loops
 pub mod Searches
+pub mod Ends
 pub mod Removals
+pub mod Copies
 pub mod Swaps
 pub mod Pushes
 pub mod Values
