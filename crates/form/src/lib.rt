@@ -243,9 +243,6 @@ pub fn append_argument(form: &mut [u32], branch: Branch, place: u32, val: Value)
 {
     let p = branch.0 as usize;
     let i = place as usize;
-    rows::push(
-        form,
-        ARGS + (p * entity::DESTS as usize + i) * PARAM_ROW,
-        val.0,
-    );
+    let at = ARGS + (p * entity::DESTS as usize + i) * PARAM_ROW;
+    rows::push(form, at, val.0);
 }
