@@ -1,23 +1,22 @@
 -- The zero log and the blocks placed: tables of one row each. A zero goes to the same place of two rows.
 -- Assumes nothing.
-use Prim.Native.Nat.{ℕ, zero, suc, _+_, _-_, _≤_, _<_}
-use mathlib.Core.Path.{_≡_, refl, sym, ap, _∙_}
-use mathlib.Core.Bool.{Bool, true, false, _||_}
+use Prim.Native.Nat.{ℕ, zero, _+_, _≤_, _<_}
+use mathlib.Core.Path.{_≡_, refl, sym, _∙_}
+use mathlib.Core.Bool.{true, false}
 use mathlib.Core.List.{List, [], _∷_, map-append}
 use native.Mathlib.Omega.{arith}
-use native.Mathlib.Nat.{not-suc-le-zero, le-of-suc-le-suc}
-use lib.Dec.{eqb, ltb}
+use lib.Dec.{ltb}
 use lib.ListN.{length, getD, set, length-map}
 use Rattle.entity.specs.Limits.{limits, pred-room, zero-room}
 use Rattle.definition.specs.Base.{has, _∷ʳ_}
 use Rattle.definition.specs.Form.{Form}
 use Rattle.definition.specs.Read.{log-zero, place-block}
-use Rattle.meaning.proofs.Maps.{eqb-same}
 use Rattle.layout.specs.Cells.{base, Holds, cell}
 use Rattle.layout.specs.Layout.{firsts, seconds, form-sizes, form-tables, pred-row}
 use Rattle.layout.specs.Rows.{Row, Readable, Pushable, pushed, seek}
-use Rattle.layout.proofs.Rows.{row-count, row-entry, row-readable}
+use Rattle.layout.proofs.Rows.{row-count, row-readable}
 use Rattle.layout.proofs.Searches.{row-has}
+use Rattle.layout.proofs.Ends.{row-empty, row-last}
 use Rattle.layout.proofs.Grids.{row-of}
 use Rattle.layout.proofs.Pushes.{row-can-push, row-more}
 use Rattle.form.specs.Can.{Cells, Can-log, Has-placed, Can-place}
@@ -52,48 +51,28 @@ module _ (l : List ℕ) (s : Form) where
 
 -- ---- the blocks placed
 
-has-at : (xs : List ℕ) (i : ℕ) → i < length xs → has (getD xs i 0) xs ≡ true
-has-at [] i lt = absurd (not-suc-le-zero lt)
-has-at (x ∷ xs) zero lt = ap (λ (z : Bool). z || has x xs) (eqb-same x)
-has-at (x ∷ xs) (suc i) lt = by (eqb (getD xs i 0) x) (has-at xs i (le-of-suc-le-suc lt))
-  where
-    by : (z : Bool) → has (getD xs i 0) xs ≡ true → z || has (getD xs i 0) xs ≡ true
-    by true h = refl
-    by false h = h
-
-has-none : (x : ℕ) (xs : List ℕ) → length xs ≡ 0 → has x xs ≡ false
-has-none x [] e = refl
-has-none x (y ∷ ys) e = absurd (omega arith)
-
-module _ (l : List ℕ) (b : ℕ) (s : Form) where
+module _ (l : List ℕ) (s : Form) where
   module _ (p : Has-placed l s) where
     the-row : Row l (base form-sizes 6) pred-row (s .placed)
     the-row = row-of form-sizes l (form-tables s) 6 (p .cells) (s .placed) refl (omega (arith, p .few))
 
-    count : getD l (base form-sizes 6) 0 ≡ length (s .placed)
-    count = row-count l (base form-sizes 6) pred-row (s .placed) the-row
-
     pub placed-few : (getD l (base form-sizes 6) 0 ≤ pred-room limits) × (base form-sizes 7 ≤ length l)
-    placed-few = (omega (arith, count, p .few), omega (arith, p .cells .long))
+    placed-few = (omega (arith, row-count l (base form-sizes 6) pred-row (s .placed) the-row, p .few), omega (arith, p .cells .long))
 
     pub placed-readable : Readable l (base form-sizes 6)
     placed-readable = row-readable l (base form-sizes 6) pred-row (s .placed) the-row (omega (arith, p .few))
 
-    pub none-placed : getD l (base form-sizes 6) 0 ≡ 0 → false ≡ has b (s .placed)
-    none-placed z = sym (has-none b (s .placed) (sym count ∙ z))
+    module _ (b : ℕ) where
+      pub none-placed : getD l (base form-sizes 6) 0 ≡ 0 → false ≡ has b (s .placed)
+      none-placed z = sym (row-empty l (base form-sizes 6) pred-row (s .placed) the-row b z)
 
-    pub last-placed : (getD l (base form-sizes 6) 0 ≡ 0 → ⊥) → getD l (base form-sizes 6 + getD l (base form-sizes 6) 0) 0 ≡ b → true ≡ has b (s .placed)
-    last-placed n e =
-        let k = length (s .placed) - 1 in
-        let lt : k < length (s .placed) = omega (arith, count, n) in
-        let at : base form-sizes 6 + getD l (base form-sizes 6) 0 ≡ base form-sizes 6 + 1 + k = omega (arith, count) in
-        let is : getD (s .placed) k 0 ≡ b = sym (row-entry l (base form-sizes 6) pred-row (s .placed) the-row k (omega (arith, p .few))) ∙ ap (λ (i : ℕ). getD l i 0) (sym at) ∙ e in
-        sym (rw is at (has-at (s .placed) k lt))
+      pub last-placed : (getD l (base form-sizes 6) 0 ≡ 0 → ⊥) → getD l (base form-sizes 6 + getD l (base form-sizes 6) 0) 0 ≡ b → true ≡ has b (s .placed)
+      last-placed n e = sym (row-last l (base form-sizes 6) pred-row (s .placed) the-row b n e)
 
-    pub placed-is : ltb (seek l (base form-sizes 6) b (getD l (base form-sizes 6) 0) 0) (getD l (base form-sizes 6) 0) ≡ has b (s .placed)
-    placed-is = row-has l (base form-sizes 6) pred-row (s .placed) the-row b
+      pub placed-is : ltb (seek l (base form-sizes 6) b (getD l (base form-sizes 6) 0) 0) (getD l (base form-sizes 6) 0) ≡ has b (s .placed)
+      placed-is = row-has l (base form-sizes 6) pred-row (s .placed) the-row b
 
-  module _ (p : Can-place l b s) where
+  module _ (b : ℕ) (p : Can-place l b s) where
     pub placed-already : has b (s .placed) ≡ true → Cells l (place-block b s)
     placed-already e = rw e (p .placed .cells)
 

@@ -2,25 +2,23 @@
 -- Assumes nothing.
 use Prim.Native.Nat.{ℕ, _+_, _*_, _≤_, _<_}
 use mathlib.Core.Path.{_≡_, refl, sym, ap, _∙_}
-use mathlib.Core.Logic.{_≢_, _⊎_, inl, inr}
 use mathlib.Core.Option.{Option, some}
 use mathlib.Core.List.{List, [], _∷_, _++_, map-append}
 use native.Mathlib.Omega.{arith}
 use native.Mathlib.Numerals.{add-one}
 use lib.ListN.{length, getD, set, length-map}
-use lib.Seq.{getD-set-same, getD-set-other}
 use Rattle.entity.specs.Limits.{limits, param-room}
 use Rattle.definition.specs.Base.{put, put₂, orElse}
 use Rattle.definition.specs.Form.{Form, def}
 use Rattle.definition.specs.Read.{write, mark-one, wait, set-pending}
 use Rattle.definition.specs.Tables.{plus-one}
-use Rattle.meaning.proofs.Maps.{same?, put-same, put-other}
-use Rattle.meaning.proofs.Maps.{put₂-at, put₂-other}
+use Rattle.meaning.proofs.Maps.{put-same, put-other, put₂-at, put₂-other}
 use Rattle.layout.specs.Cells.{base, Holds, grid}
 use Rattle.layout.specs.Layout.{firsts, form-sizes, form-tables, param-row}
 use Rattle.layout.specs.Rows.{Row, Readable, Pushable, pushed, wipe}
 use Rattle.layout.proofs.Rows.{row-count, row-entry, row-readable}
 use Rattle.layout.proofs.Grids.{grid-at, grid-store, row-among, rows-changed}
+use Rattle.layout.proofs.Copies.{Copied}
 use Rattle.layout.proofs.Removals.{row-wiped}
 use Rattle.layout.proofs.Pushes.{rows-can-push, rows-more}
 use Rattle.form.specs.Can.{Cells, Has-def, Recorded, Can-wait, Has-pending, Lists}
@@ -89,23 +87,6 @@ module _ (l : List ℕ) (b : ℕ) (s : Form) where
         rw e
         (rows-changed form-sizes l (form-tables s) 10 (p .cells) param-row pendings b refl (omega (arith, p .known)) (wipe (base form-sizes 10 + b * param-row) (getD l (base form-sizes 10 + b * param-row) 0) 0 l)
         (λ d. firsts (put b [] (s .pending) d)) (omega arith) (omega arith) (rw put-same (row-wiped l (base form-sizes 10 + b * param-row) param-row (pendings b) the-row)) (λ d n. ap firsts (put-other b [] (s .pending) d n)))
-
--- ---- the row copied to a list
-
--- the first i entries of the row at a stand in the list
-pub record Copied (l : List ℕ) (a : ℕ) (list : List ℕ) (i : ℕ) : Type 0 where
-  pub at : (j : ℕ) → j < i → getD list j 0 ≡ getD l (a + 1 + j) 0
-
-module _ (l : List ℕ) (a : ℕ) (list : List ℕ) where
-  pub copied-none : Copied l a list 0
-  copied-none = record { at = λ j lt. absurd (omega arith) }
-
-  pub copied-more : (i : ℕ) → Copied l a list i → i < length list → Copied l a (set list i (getD l (a + 1 + i) 0)) (i + 1)
-  copied-more i C lt = record { at = λ j below. by j below (same? j i) }
-    where
-      by : (j : ℕ) → j < i + 1 → (j ≡ i) ⊎ (j ≢ i) → getD (set list i (getD l (a + 1 + i) 0)) j 0 ≡ getD l (a + 1 + j) 0
-      by j below (inl e) = rw e (getD-set-same list i (getD l (a + 1 + i) 0) 0 lt)
-      by j below (inr n) = getD-set-other list i j (getD l (a + 1 + i) 0) 0 n ∙ C .at j (omega arith)
 
 pub pending-listed : (l : List ℕ) (b : ℕ) (list : List ℕ) (i n : ℕ) → n ≤ i → Copied l (base form-sizes 10 + b * param-row) list i
     → (s : Form) → Has-pending l b s → n ≡ length (s .pending b) → Lists list b n s

@@ -1,16 +1,15 @@
 // The form in lent cells: every read and every change of it. Nothing above this crate mentions its cells.
 ghost use mathlib.Core.Path.{_≡_};
-ghost use mathlib.Core.List.{List, [], _∷_};
 ghost use Prim.Native.Nat.{ℕ, suc, _<_, _≤_};
 ghost use lib.ListN.{length};
 ghost use Rattle.entity.specs.Limits.{limits, value-room, param-room};
 ghost use Rattle.definition.specs.Base.{put, put₂, _∷ʳ_, has, without};
 ghost use Rattle.definition.specs.Form.{Form, Sort, param, def, with-makes, with-target, with-args};
-ghost use Rattle.definition.specs.Read.{make as made-of, set-params, wait, log-zero, place-block};
+ghost use Rattle.definition.specs.Read.{make as made-of, resolve as resolved, set-params, wait, log-zero, place-block};
 ghost use Rattle.definition.specs.Tables.{sort-number, plus-one};
 ghost use Rattle.layout.specs.Counts.{more};
 ghost use Rattle.layout.specs.Layout.{Shows};
-ghost use Rattle.form.specs.Can.{Cells, Ex, Can-make, Can-count, Has-value, Can-append, Has-params, Next-param, Can-feed};
+ghost use Rattle.form.specs.Can.{Cells, Ex, Can-make, Can-count, Has-value, Can-resolve, Can-append, Has-params, Next-param, Can-feed};
 ghost use Rattle.form.specs.Can.{Has-def, Recorded, Can-wait, Has-pending, Lists, Taken, Can-log, Has-placed, Can-place};
 use entity::Block;
 use entity::Branch;
@@ -63,6 +62,7 @@ pub fn count_made(form: &mut [u32])
     form[MADE_COUNT] = form[MADE_COUNT] + 1;
 }
 
+// How many values the caller made: the limit is on these.
 pub fn made_count(form: &[u32]) -> u32
     requires { ⌜ Ex (Cells (now form)) ⌝ }
     ensures { λ r. ⌜ ((s : Form) → Cells (now (form .entry)) s → r ≡ s .makes) ⌝ }
@@ -70,6 +70,7 @@ pub fn made_count(form: &[u32]) -> u32
     form[MADE_COUNT]
 }
 
+// A zero has the type of the parameter that it stands for, and a variable takes only values of its own.
 pub fn value_type(form: &[u32], val: Value) -> u32
     requires { ⌜ Ex (Has-value (now form) (val .0)) ⌝ }
     ensures { λ r. ⌜ ((s : Form) → Has-value (now (form .entry)) (val .0) s → r ≡ s .info (val .0) .type) ⌝ }
@@ -78,7 +79,7 @@ pub fn value_type(form: &[u32], val: Value) -> u32
     form[TYPE + i]
 }
 
-// How many zeros the log has.
+// How many zeros the log has: a call answers how many it added.
 pub fn zero_count(form: &[u32]) -> u32
     requires { ⌜ Ex (Cells (now form)) ⌝ }
     ensures { λ r. ⌜ ((s : Form) → Cells (now (form .entry)) s → r ≡ length (s .zeros)) ⌝ }
@@ -118,6 +119,16 @@ pub fn change_to_alias(form: &mut [u32], val: Value, to: Value)
     form[TARGET + i] = to.0;
 }
 
+// The value that this one stands for, itself where it is no alias.
+pub fn resolve(form: &[u32], c: Counts, val: Value) -> Value
+    requires { ⌜ Ex (Can-resolve (now form) c (val .0)) ⌝ }
+    ensures { λ r. ⌜ ((s : Form) → Can-resolve (now (form .entry)) c (val .0) s → r .0 ≡ resolved s (val .0)) ⌝ }
+{
+    let end = TARGET + c.values as usize;
+    let answer = alias::resolve(&form[TARGET..end], val);
+    Value(answer.number)
+}
+
 // The definition of the variable in the block plus one; 0 for none.
 pub fn definition(form: &[u32], var: Variable, block: Block) -> u32
     requires { ⌜ Ex (Has-def (now form) (var .0) (block .0)) ⌝ }
@@ -148,6 +159,7 @@ pub fn push_pending(form: &mut [u32], var: Variable, block: Block)
     rows::push(form, PENDING + b * PARAM_ROW, var.0);
 }
 
+// How many variables are pending in the block.
 pub fn pending_count(form: &[u32], block: Block) -> u32
     requires { ⌜ Ex (Has-pending (now form) (block .0)) ⌝ }
     ensures { λ r. ⌜ (r ≤ param-room limits) × ((s : Form) → Has-pending (now (form .entry)) (block .0) s → r ≡ length (s .pending (block .0))) ⌝ }
@@ -194,7 +206,8 @@ pub fn pending_param(form: &[u32], block: Block, n: u32) -> Value
 {
     let b = block.0 as usize;
     let at = PARAMS + b * PARAM_ROW;
-    let k = (form[at] - n) as usize;
+    let count = form[at];
+    let k = (count - n) as usize;
     Value(form[at + 1 + k])
 }
 
@@ -242,9 +255,6 @@ pub fn append_argument(form: &mut [u32], branch: Branch, place: u32, val: Value)
 {
     let p = branch.0 as usize;
     let i = place as usize;
-    rows::push(
-        form,
-        ARGS + (p * entity::DESTS as usize + i) * PARAM_ROW,
-        val.0,
-    );
+    let at = ARGS + (p * entity::DESTS as usize + i) * PARAM_ROW;
+    rows::push(form, at, val.0);
 }

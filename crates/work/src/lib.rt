@@ -61,6 +61,7 @@ pub fn pop_call(work: &mut [u32], c: Counts) -> Popped
     Popped(Call::FinishPredecessorsLookup(Value(v - 1), Block(b)), d)
 }
 
+// A read's answer waits here until its block is settled.
 pub fn push_result(work: &mut [u32], c: Counts, val: Value) -> Counts
     requires { ⌜ Some (Can-answer (now work) c) ⌝ }
     ensures { λ r. ⌜ (r ≡ one-result c)

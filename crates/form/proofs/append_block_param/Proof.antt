@@ -8,7 +8,9 @@ use Rattle.form.proofs.append_block_param.Statement.{statement}
 use Rattle.form.proofs.append_block_param.Tie as tie
 
 push-requires : tie.Need-push-requires
-push-requires c κs = param-room _ _ _ _ (c .before .before .before .before .before .before .before .pre .0) _ (c .before .before .before .before .before .before .before .pre .1) (c .before .before .before .make .ensures .1 (c .before .before .before .before .before .before .before .pre .0) (c .before .before .before .before .before .before .before .pre .1 .make) param refl)
+push-requires c κs =
+    let p = c .before .before .before .before .before .before .before .pre in
+    param-room _ _ _ _ (p .0) _ (p .1) (c .before .before .before .make .ensures .1 (p .0) (p .1 .make) param refl)
 
 returns : tie.Need-returns
 returns c = (c .before .before .before .before .before .before .make .ensures .0, λ s p. param-appended _ _ _ _ s _ p (c .before .before .before .before .before .before .make .ensures .1 s (p .make) param refl) _ (c .before .before .push .ensures))

@@ -5,7 +5,8 @@ use native.Mathlib.Omega.{arith}
 use Prim.Native.Nat.{_-_, _≤_}
 use mathlib.Core.Path.{_≡_, refl}
 use lib.ListN.{length, length-set}
-use Rattle.form.proofs.Variables.{copied-none, Copied, copied-more, pending-listed}
+use Rattle.layout.proofs.Copies.{Copied, copied-none, copied-more}
+use Rattle.form.proofs.Variables.{pending-listed}
 use Rattle.form.proofs.list_pending.Statement.{statement}
 use Rattle.form.proofs.list_pending.Tie as tie
 
