@@ -1,9 +1,9 @@
 -- Every alias chain ends, and ends where the definition's resolving does: the bound on its links is never met, as no chain is longer than there are aliases.
--- A walk ends in one place, so resolving has one answer. Assumes nothing.
+-- Assumes nothing.
 use Prim.Native.Nat.{ℕ, zero, suc, _+_, _<_}
 use mathlib.Core.Path.{_≡_, refl, sym, ap, _∙_, subst}
 use mathlib.Core.Bool.{Bool, true, false}
-use mathlib.Core.List.{List, map}
+use mathlib.Core.List.{map}
 use lib.Dec.{eqb}
 use lib.ListN.{length, getD, length-map}
 use native.Mathlib.Omega.{arith}
@@ -11,40 +11,11 @@ use native.Mathlib.Nat.{not-suc-le-zero}
 use Rattle.definition.specs.Base.{upFrom}
 use Rattle.definition.specs.Form.{Form, Graph}
 use Rattle.definition.specs.Read.{follow, resolve}
-use Rattle.definition.specs.Resolve.{Ends, here, on, Resolved, past, ends, lost, targets}
+use Rattle.definition.specs.Resolve.{Ends, here, on, ends, targets}
 use Rattle.meaning.specs.Machine.{Conf}
 use Rattle.meaning.proofs.Alias.{Tree, root-is}
 use Rattle.meaning.proofs.Inv.{Work}
 use Rattle.meaning.proofs.Rooms.{Moment}
-
--- one walk, one end
-module _ (ts : List ℕ) where
-  root-ends : {x y : ℕ} → Ends ts x y → getD ts x 0 ≡ x → y ≡ x
-  root-ends (here l e) q = refl
-  root-ends (on l r) q = root-ends r (ap (λ (k : ℕ). getD ts k 0) q) ∙ q
-
-  next-ends : {x y : ℕ} → Ends ts x y → Ends ts (getD ts x 0) y
-  next-ends (here {x} l e) = subst (λ (k : ℕ). Ends ts k x) (sym e) (here l e)
-  next-ends (on l r) = r
-
-  ends-same : {x y z : ℕ} → Ends ts x y → Ends ts x z → y ≡ z
-  ends-same (here l e) q = sym (root-ends q e)
-  ends-same (on l r) q = ends-same r (next-ends q)
-
-  ends-below : {x y : ℕ} → Ends ts x y → x < length ts
-  ends-below (here l e) = l
-  ends-below (on l r) = l
-
-  pub resolved-same : (x k n l m : ℕ) → Resolved ts x k n → Resolved ts x l m → (k ≡ l) × (n ≡ m)
-  resolved-same x k n l m (past a) (past b) = (refl, refl)
-  resolved-same x k n l m (past a) (ends b) = absurd (omega (arith, a, ends-below b))
-  resolved-same x k n l m (past a) (lost b f) = absurd (omega (arith, a, b))
-  resolved-same x k n l m (ends a) (past b) = absurd (omega (arith, b, ends-below a))
-  resolved-same x k n l m (ends a) (ends b) = (refl, ends-same a b)
-  resolved-same x k n l m (ends {y} a) (lost b f) = absurd (f y a)
-  resolved-same x k n l m (lost a f) (past b) = absurd (omega (arith, a, b))
-  resolved-same x k n l m (lost a f) (ends {y} b) = absurd (f y b)
-  resolved-same x k n l m (lost a f) (lost b h) = (refl, refl)
 
 -- the list of targets
 pub up-length : (i n : ℕ) → length (upFrom i n) ≡ n

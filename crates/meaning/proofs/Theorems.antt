@@ -17,7 +17,6 @@ use Rattle.meaning.specs.Rooms.{Rooms}
 use Rattle.meaning.specs.Causes.{Once}
 use Rattle.meaning.specs.Enough.{Enough}
 use Rattle.meaning.specs.Holds.{Holds}
-use Rattle.meaning.proofs.Chains.{resolved-same}
 use Rattle.meaning.proofs.Rooms.{fed-always}
 use Rattle.meaning.proofs.Steady.{calls-count, logged}
 use Rattle.meaning.proofs.Turns.{scheduled, scheduled-all}
@@ -72,10 +71,6 @@ chains-resolve cs = holds cs .chains
 -- The bounds that the definition computes with are never met: a greater depth of reading, a longer walk, more links change nothing.
 pub bounds-suffice : (cs : List Call) → Enough (session cs .graph) (session cs .form)
 bounds-suffice cs = holds cs .enough
-
--- Resolving has one answer, over any list.
-pub resolving-determined : (ts : List ℕ) (x k n l m : ℕ) → Resolved ts x k n → Resolved ts x l m → (k ≡ l) × (n ≡ m)
-resolving-determined = resolved-same
 
 -- Each destination of a declared predecessor of a sealed block has as many arguments as the block has parameters.
 pub arguments-match : (cs : List Call) (p i : ℕ) → let g = session cs .graph in

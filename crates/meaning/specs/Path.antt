@@ -47,13 +47,42 @@ declares p d = eqb (d .asked .kind) 9 && eqb (d .code) 0 && eqb (d .asked .y) p
 abbrev pub defines : ℕ → Done → Bool
 defines p d = (eqb (d .asked .kind) 4 || eqb (d .asked .kind) 5) && eqb (d .code) 0 && eqb (d .asked .z) p
 
+-- after an accepted declaration of branch p nothing is defined in block p
+abbrev pub On-time : List Done → Type 0
+On-time all = (p : ℕ) (ds es : List Done) (d e : Done) → all ≡ ds ++ d ∷ es → declares p d ≡ true → In e es → defines p e ≡ false
+
+-- x was made, or answered to a use, among these acts
+abbrev pub Had : ℕ → List Act → Type 0
+Had x us = In (makes x) us ⊎ ((w : ℕ) × In (uses w x) us)
+
 -- The suppositions of demand 3, of a finished session.
-pub record Supposed (t : State) : Type 0 where
-  pub all-sealed : (b : ℕ) → b < t .graph .blocks → t .graph .sealed b ≡ true
-  pub none-enters-0 : (p : ℕ) → In 0 (t .graph .dests p) → ⊥
-  pub all-declared : (p b : ℕ) → In b (t .graph .dests p) → In p (t .graph .preds b)
-  pub none-late : (p : ℕ) (ds es : List Done) (d e : Done) → t .done ≡ ds ++ d ∷ es → declares p d ≡ true → In e es → defines p e ≡ false
-  pub own-values : (b v x : ℕ) (us bs : List Act) → acts b (t .done) ≡ us ++ gives v x ∷ bs → In (makes x) us ⊎ ((w : ℕ) × In (uses w x) us)
+module _ (t : State) where
+  -- every block is sealed
+  abbrev pub All-sealed : Type 0
+  All-sealed = (b : ℕ) → b < t .graph .blocks → t .graph .sealed b ≡ true
+
+  -- no branch goes into block 0
+  abbrev pub None-enters-0 : Type 0
+  None-enters-0 = (p : ℕ) → In 0 (t .graph .dests p) → ⊥
+
+  -- every branch is declared to each of its destinations
+  abbrev pub All-declared : Type 0
+  All-declared = (p b : ℕ) → In b (t .graph .dests p) → In p (t .graph .preds b)
+
+  -- nothing is defined in a block once its branch was declared
+  abbrev pub None-late : Type 0
+  None-late = On-time (t .done)
+
+  -- each definition takes a value made earlier in its own block, or answered to an earlier use there
+  abbrev pub Own-values : Type 0
+  Own-values = (b v x : ℕ) (us bs : List Act) → acts b (t .done) ≡ us ++ gives v x ∷ bs → Had x us
+
+  pub record Supposed : Type 0 where
+    pub all-sealed : All-sealed
+    pub none-enters-0 : None-enters-0
+    pub all-declared : All-declared
+    pub none-late : None-late
+    pub own-values : Own-values
 
 -- Words that values hold, and the zero of each type.
 module _ (W : Type 0) (null : ℕ → W) (t : State) where
