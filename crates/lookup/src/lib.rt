@@ -1,0 +1,1 @@
+// Looking a variable up.
