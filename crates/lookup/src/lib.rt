@@ -1,15 +1,77 @@
 // Looking a variable up: a visit of a block finds its definition along single predecessors, or makes a parameter and schedules what settles it.
 ghost use mathlib.Core.Path.{_≡_};
 ghost use mathlib.Core.List.{List};
-ghost use Prim.Native.Nat.{ℕ};
-ghost use Rattle.definition.specs.Form.{Graph};
+ghost use Prim.Native.Nat.{ℕ, _<_};
+ghost use Rattle.entity.specs.Limits.{limits, value-room};
+ghost use Rattle.definition.specs.Form.{Graph, Form};
+ghost use Rattle.definition.specs.Read.{mark};
 ghost use Rattle.meaning.specs.Machine.{Task, schedule};
 ghost use Rattle.layout.specs.Layout.{Stacks};
+ghost use Rattle.form.specs.Can.{Cells};
+ghost use Rattle.lookup.specs.Walk.{Walk-with, Can-walk, whole-walk, Stops, Copy-with, Can-copy};
 ghost use Rattle.lookup.specs.Find.{Begin-with, Can-begin};
 use entity::Block;
 use entity::Value;
+use entity::Variable;
 use layout::Call;
 use layout::Counts;
+
+// Where a walk stopped, and the definition that it met there, plus one; 0 for none.
+pub struct Stop {
+    pub block: Block,
+    pub value: u32,
+}
+
+// Records the value in each block from the first up to the first meeting with `from`, which is left alone: on a ring of single predecessors it may be
+// met again, and it has the value already.
+fn copy_back(graph: &[u32], form: &mut [u32], var: Variable, block: Block, from: Block, val: Value)
+    requires { ⌜ Copy-with (Can-copy (now graph) (now form) (var .0) (block .0) (from .0)) ⌝ }
+    requires { ⌜ val .0 < value-room limits ⌝ }
+    ensures { λ r. ⌜ ((g : Graph) → (s : Form) → (bs : List ℕ) → Can-copy (now (graph .entry)) (now (form .entry)) (var .0) (block .0) (from .0) g s bs
+        → Cells (now (form .exit)) (mark (var .0) (val .0) bs s)) ⌝ }
+{
+    let to = from.0;
+    let mut b = block.0;
+    while b != to {
+        form::record_def(form, var, Block(b), val);
+        b = graph::single_predecessor(graph, Block(b)) - 1;
+    }
+}
+
+// Walks over single predecessors until a definition, a block met before, or a block without one. Each step costs the same: what was met is marked.
+fn walk(graph: &[u32], form: &[u32], var: Variable, block: Block) -> Stop
+    requires { ⌜ Walk-with (Can-walk (now graph) (now form) (var .0) (block .0)) ⌝ }
+    ensures { λ r. ⌜ ((g : Graph) → (s : Form) → Can-walk (now (graph .entry)) (now (form .entry)) (var .0) (block .0) g s
+        → Stops r (whole-walk g (var .0) (block .0) s)) ⌝ }
+{
+    let mut visited = [false; entity::BLOCKS as usize];
+    let mut b = block.0;
+    loop {
+        let q = graph::single_predecessor(graph, Block(b));
+        if q == 0 {
+            return Stop {
+                block: Block(b),
+                value: 0,
+            };
+        }
+        let i = b as usize;
+        if visited[i] {
+            return Stop {
+                block: Block(b),
+                value: 0,
+            };
+        }
+        visited[i] = true;
+        b = q - 1;
+        let x = form::definition(form, var, Block(b));
+        if x != 0 {
+            return Stop {
+                block: Block(b),
+                value: x,
+            };
+        }
+    }
+}
 
 // Schedules the lookup in each predecessor, and what settles the sentinel after them. The call on top runs first, so the last predecessor is
 // scheduled first.
