@@ -9,7 +9,7 @@ ghost use Rattle.meaning.specs.Machine.{Task, schedule};
 ghost use Rattle.layout.specs.Layout.{Stacks};
 ghost use Rattle.form.specs.Can.{Cells};
 ghost use Rattle.lookup.specs.Walk.{Walk-with, Can-walk, whole-walk, Stops, Copy-with, Can-copy};
-ghost use Rattle.lookup.specs.Find.{Begin-with, Can-begin};
+ghost use Rattle.lookup.specs.Find.{All-with, Can-use, Visits, Can-find, Finds, Begin-with, Can-begin};
 use entity::Block;
 use entity::Value;
 use entity::Variable;
@@ -20,6 +20,40 @@ use layout::Counts;
 pub struct Stop {
     pub block: Block,
     pub value: u32,
+}
+
+// The definition found, the block that it comes from, and the counts after.
+pub struct Found {
+    pub val: Value,
+    pub from: Block,
+    pub counts: Counts,
+}
+
+// Puts the value of the variable in the block on the stack of results, or schedules what finds it.
+pub fn use_var_nonlocal(
+    graph: &[u32],
+    form: &mut [u32],
+    work: &mut [u32],
+    c: Counts,
+    var: Variable,
+    ty: u32,
+    block: Block,
+) -> Counts
+    requires { ⌜ All-with (Can-use (now graph) (now form) (now work) c (var .0) ty (block .0)) ⌝ }
+    ensures { λ r. ⌜ ((g : Graph) → (s : Form) → (ts : List Task) → (rs : List ℕ)
+        → Can-use (now (graph .entry)) (now (form .entry)) (now (work .entry)) c (var .0) ty (block .0) g s ts rs
+        → Visits (now (form .exit)) (now (work .exit)) (c .call) r (var .0) (block .0) g s ts rs) ⌝ }
+{
+    let x = form::definition(form, var, block);
+    if x != 0 {
+        return work::push_result(work, c, Value(x - 1));
+    }
+    let f = find_var(graph, form, work, c, var, ty, block);
+    let val = f.val;
+    let from = f.from;
+    let d = f.counts;
+    copy_back(graph, form, var, block, from, val);
+    d
 }
 
 // Records the value in each block from the first up to the first meeting with `from`, which is left alone: on a ring of single predecessors it may be
@@ -70,6 +104,53 @@ fn walk(graph: &[u32], form: &[u32], var: Variable, block: Block) -> Stop
                 value: x,
             };
         }
+    }
+}
+
+// Finds the most recent definition of the variable along single predecessors, or makes a parameter for it where the walk stopped. The parameter is
+// recorded before any predecessor is read, so that a loop of blocks finds it. A block that is not sealed waits with its predecessors.
+fn find_var(
+    graph: &[u32],
+    form: &mut [u32],
+    work: &mut [u32],
+    c: Counts,
+    var: Variable,
+    ty: u32,
+    block: Block,
+) -> Found
+    requires { ⌜ All-with (Can-find (now graph) (now form) (now work) c (var .0) ty (block .0)) ⌝ }
+    ensures { λ r. ⌜ ((g : Graph) → (s : Form) → (ts : List Task) → (rs : List ℕ)
+        → Can-find (now (graph .entry)) (now (form .entry)) (now (work .entry)) c (var .0) ty (block .0) g s ts rs
+        → Finds (now (form .exit)) (now (work .exit)) (c .call) r (var .0) (block .0) g s ts rs) ⌝ }
+{
+    let stop = walk(graph, form, var, block);
+    let from = stop.block;
+    if stop.value != 0 {
+        let met = Value(stop.value - 1);
+        let d = work::push_result(work, c, met);
+        return Found {
+            val: met,
+            from: from,
+            counts: d,
+        };
+    }
+    let val = Value(c.values);
+    let d = form::append_block_param(form, c, from, ty);
+    form::record_def(form, var, from, val);
+    if graph::is_sealed(graph, from) {
+        let e = begin_predecessors_lookup(graph, work, d, val, from);
+        return Found {
+            val: val,
+            from: from,
+            counts: e,
+        };
+    }
+    form::push_pending(form, var, from);
+    let e = work::push_result(work, d, val);
+    Found {
+        val: val,
+        from: from,
+        counts: e,
     }
 }
 
