@@ -124,11 +124,12 @@ module _ (gl l₀ : List ℕ) (to v x b₀ : ℕ) where
   abbrev pub Copied : List ℕ → ℕ → Type 0
   Copied l b = (g : Graph) (s : Form) (bs : List ℕ) → Can-copy gl l₀ v b₀ to g s bs → Copying g to v x s bs l b
 
-  pub copy-start : Copied l₀ b₀
+module _ {gl l₀ : List ℕ} {to v x b₀ : ℕ} where
+  pub copy-start : Copied gl l₀ to v x b₀ l₀ b₀
   copy-start g s bs h = record { now = s; rest = bs; chain = h .chain; few = h .few; bare = h .bare; cells = h .cells; same = refl }
 
-  module _ (l : List ℕ) (b : ℕ) (n : b ≡ to → ⊥) (C : Copied l b) where
-    module _ (g : Graph) (s : Form) (bs : List ℕ) (h : Can-copy gl l₀ v b₀ to g s bs) where
+  module _ {l : List ℕ} {b : ℕ} (n : b ≡ to → ⊥) (C : Copied gl l₀ to v x b₀ l b) where
+    module _ {g : Graph} {s : Form} {bs : List ℕ} (h : Can-copy gl l₀ v b₀ to g s bs) where
       abbrev k : Copying g to v x s bs l b
       k = C g s bs h
 
@@ -144,7 +145,7 @@ module _ (gl l₀ : List ℕ) (to v x b₀ : ℕ) where
       few : suc (length (u .rest)) ≤ limits .blocks
       few = rw (u .all) at (k .few)
 
-      module _ (q : ℕ) (one : (g : Graph) → Seen gl g → q ≡ plus-one (single g b)) where
+      module _ {q : ℕ} (one : (g : Graph) → Seen gl g → q ≡ plus-one (single g b)) where
         next : q ≡ suc (u .p)
         next = one g (h .seen) ∙ ap plus-one (u .one)
 
@@ -161,8 +162,8 @@ module _ (gl l₀ : List ℕ) (to v x b₀ : ℕ) where
               subst (λ (i : ℕ). far gl to (limits .blocks) i ≡ length (u .rest)) e (chain-far (h .seen) (limits .blocks) (u .chain) (omega (arith, few))),
             )
 
-        copies : (l₁ : List ℕ) → Recorded l l₁ v b x → Copying g to v x s bs l₁ (q - 1)
-        copies l₁ R =
+        copies : {l₁ : List ℕ} → Recorded l l₁ v b x → Copying g to v x s bs l₁ (q - 1)
+        copies R =
             let e : u .p ≡ q - 1 = omega (arith, next) in
             let bare : (d : ℕ) → In d (b ∷ u .rest) → k .now .own v d ≡ none = subst (λ (r : List ℕ). (d : ℕ) → In d r → k .now .own v d ≡ none) (u .all) (k .bare) in
             record {
@@ -175,10 +176,10 @@ module _ (gl l₀ : List ℕ) (to v x b₀ : ℕ) where
               same = mark-first v x b (u .rest) (k .now) ∙ ap (λ (r : List ℕ). mark v x r (k .now)) (sym (u .all)) ∙ k .same;
             }
 
-    pub copy-next : (q : ℕ) → ((g : Graph) → Seen gl g → q ≡ plus-one (single g b)) → (l₁ : List ℕ) → Recorded l l₁ v b x → Copied l₁ (q - 1)
-    copy-next q one l₁ R g s bs h = copies g s bs h q one l₁ R
+    pub copy-next : {q : ℕ} → ((g : Graph) → Seen gl g → q ≡ plus-one (single g b)) → {l₁ : List ℕ} → Recorded l l₁ v b x → Copied gl l₀ to v x b₀ l₁ (q - 1)
+    copy-next one R g s bs h = copies h one R
 
-  pub copy-end : (l : List ℕ) (b : ℕ) → b ≡ to → Copied l b → (g : Graph) (s : Form) (bs : List ℕ) → Can-copy gl l₀ v b₀ to g s bs → Cells l (mark v x bs s)
-  copy-end l b e C g s bs h =
+  pub copy-end : {l : List ℕ} {b : ℕ} → b ≡ to → Copied gl l₀ to v x b₀ l b → (g : Graph) (s : Form) (bs : List ℕ) → Can-copy gl l₀ v b₀ to g s bs → Cells l (mark v x bs s)
+  copy-end {l} e C g s bs h =
       let k = C g s bs h in
       subst (λ (t : Form). Cells l t) (ap (λ (r : List ℕ). mark v x r (k .now)) (sym (ended (k .chain) e)) ∙ k .same) (k .cells)

@@ -93,10 +93,10 @@ module _ {gl fl wl : List ℕ} {c : Counts} {v ty b : ℕ} {g : Graph} {s : Form
   has-def = record { cells = h .shows .cells; var = var-low h; known = le-trans (h .known) (h .seen .bounds .few) }
 
   module _ {x : ℕ} (reads : (s : Form) → Has-def fl v b s → x ≡ plus-one (def s v b)) where
-    pub visits-known : (x ≡ 0 → ⊥) → (wl₁ : List ℕ) (r : Counts)
+    pub visits-known : (x ≡ 0 → ⊥) → {wl₁ : List ℕ} {r : Counts}
         → (r ≡ one-result c) × ((ts : List Task) → (rs : List ℕ) → Can-answer wl c ts rs → Stacks wl₁ (one-result c) ts ((x - 1) ∷ rs))
         → Visits fl wl₁ (c .call) r v b g s ts rs
-    visits-known d wl₁ r P =
+    visits-known d {wl₁} {r} P =
         let m : def s v b ≡ some (x - 1) = some-of (def s v b) x (reads s has-def) d in
         record {
           call = ap (λ (k : Counts). k .call) (P .0);
@@ -146,10 +146,10 @@ module _ {gl fl wl : List ℕ} {c : Counts} {v ty b : ℕ} {g : Graph} {s : Form
             by (some x) y n = le-trans (h .ready .defs v (W .end) x (y x refl)) (h .ready .few)
             by none y n = h .ready .opens (W .end) (U .low) (n refl) .next
 
-        pub visits-found : (fl₂ : List ℕ)
+        pub visits-found : {fl₂ : List ℕ}
             → ((g : Graph) → (s : Form) → (bs : List ℕ) → Can-copy gl fl₁ v b (f .from .0) g s bs → Cells fl₂ (mark v (f .val .0) bs s))
             → Visits fl₂ wl₁ (c .call) (f .counts) v b g s ts rs
-        visits-found fl₂ C =
+        visits-found {fl₂} C =
             let whole = find-marked g v ts rs s (W .end) (W .passed) (W .met)
             (λ x e. before-all (W .end) (W .passed) (λ i. some-none (U .met x e) (room .1 (W .end) i .1))) K refl in
             record {

@@ -4,7 +4,7 @@
 use Prim.Native.Nat.{ℕ, suc, _-_, _≤_, _<_}
 use mathlib.Core.Path.{_≡_, refl, sym, ap, _∙_, subst}
 use mathlib.Core.Logic.{_≢_, _⊎_, inl, inr}
-use mathlib.Core.Bool.{Bool, true, false, not, _||_}
+use mathlib.Core.Bool.{Bool, true, false, not}
 use mathlib.Core.Option.{Option, none, some}
 use mathlib.Core.List.{List, [], _∷_}
 use native.Mathlib.Omega.{arith}
@@ -17,7 +17,6 @@ use Rattle.definition.specs.Form.{Graph, Form, def}
 use Rattle.definition.specs.Read.{walk, past, single}
 use Rattle.definition.specs.Session.{bit}
 use Rattle.definition.specs.Tables.{plus-one}
-use Rattle.meaning.specs.Path.{In}
 use Rattle.meaning.proofs.Maps.{same?, eqb-same, eqb-diff}
 use Rattle.meaning.proofs.Sums.{sum, sum-most, sum-more, bit-most}
 use Rattle.meaning.proofs.Reading.{only-is}
@@ -36,7 +35,7 @@ pub some-of : (o : Option ℕ) (q : ℕ) → q ≡ plus-one o → (q ≡ 0 → �
 some-of none q e d = absurd (d e)
 some-of (some x) q e d = let w : x ≡ q - 1 = omega arith in ap {B = Option ℕ} some w
 
-pub single-low : {gl : List ℕ} {g : Graph} → Seen gl g → (b p : ℕ) → single g b ≡ some p → p < g .blocks
+single-low : {gl : List ℕ} {g : Graph} → Seen gl g → (b p : ℕ) → single g b ≡ some p → p < g .blocks
 single-low {gl} {g} h b p e = h .sound .range b p (rw (only-is (g .sealed b) (g .preds b) p e .1) (inl refl))
 
 -- ---- marks
@@ -93,7 +92,8 @@ module _ (gl fl : List ℕ) (v b₀ : ℕ) where
   abbrev Ended : Stop → Type 0
   Ended r = (g : Graph) (s : Form) → Can-walk gl fl v b₀ g s → Stops r (whole-walk g v b₀ s)
 
-  pub walk-start : Walks (replicate (limits .blocks) false) b₀
+module _ {gl fl : List ℕ} {v b₀ : ℕ} where
+  pub walk-start : Walks gl fl v b₀ (replicate (limits .blocks) false) b₀
   walk-start g s h = record {
     seen = [];
     left = g .blocks;
@@ -103,14 +103,14 @@ module _ (gl fl : List ℕ) (v b₀ : ℕ) where
     ends = λ r k. k;
   }
 
-  module _ (m : List Bool) (b q : ℕ) (lb : b < limits .blocks) (one : (g : Graph) → Seen gl g → q ≡ plus-one (single g b)) (W : Walks m b) where
-    pub stop-alone : q ≡ 0 → (r : Stop) → r .block .0 ≡ b → r .value ≡ 0 → Ended r
+  module _ {m : List Bool} {b q : ℕ} (lb : b < limits .blocks) (one : (g : Graph) → Seen gl g → q ≡ plus-one (single g b)) (W : Walks gl fl v b₀ m b) where
+    pub stop-alone : q ≡ 0 → (r : Stop) → r .block .0 ≡ b → r .value ≡ 0 → Ended gl fl v b₀ r
     stop-alone e r at nil g s h = let w = W g s h in w .ends r (stops-alone g s v (w .left) (w .seen) b r (none-of (single g b) (sym e ∙ one g (h .seen))) at nil)
 
-    pub stop-again : getD m b false ≡ true → (r : Stop) → r .block .0 ≡ b → r .value ≡ 0 → Ended r
+    pub stop-again : getD m b false ≡ true → (r : Stop) → r .block .0 ≡ b → r .value ≡ 0 → Ended gl fl v b₀ r
     stop-again e r at nil g s h = let w = W g s h in w .ends r (stops-again g s v (w .left) (w .seen) b r (sym (w .marks b lb) ∙ e) at nil)
 
-    module _ (some-there : q ≡ 0 → ⊥) (new : getD m b false ≡ false) (x : ℕ) (reads : (s : Form) → Has-def fl v (q - 1) s → x ≡ plus-one (def s v (q - 1))) where
+    module _ (some-there : q ≡ 0 → ⊥) (new : getD m b false ≡ false) {x : ℕ} (reads : (s : Form) → Has-def fl v (q - 1) s → x ≡ plus-one (def s v (q - 1))) where
       module _ (g : Graph) (s : Form) (h : Can-walk gl fl v b₀ g s) where
         w : Walking g s v b₀ m b
         w = W g s h
@@ -127,13 +127,13 @@ module _ (gl fl : List ℕ) (v b₀ : ℕ) where
         fresh : has b (w .seen) ≡ false
         fresh = sym (w .marks b lb) ∙ new
 
-      pub stop-found : (x ≡ 0 → ⊥) → (r : Stop) → r .block .0 ≡ q - 1 → r .value ≡ x → Ended r
+      pub stop-found : (x ≡ 0 → ⊥) → (r : Stop) → r .block .0 ≡ q - 1 → r .value ≡ x → Ended gl fl v b₀ r
       stop-found d r at is g s h =
           let e : x ≡ suc (x - 1) = omega arith in
           let k = w g s h in
           k .ends r (stops-found g s v (k .left) (k .seen) b r (q - 1) (fresh g s h) (to g s h) (x - 1) (some-of (def s v (q - 1)) x (here g s h) d) at (is ∙ e))
 
-      pub walk-turn : b < length m → x ≡ 0 → Walks (set m b true) (q - 1)
+      pub walk-turn : b < length m → x ≡ 0 → Walks gl fl v b₀ (set m b true) (q - 1)
       walk-turn lm z g s h =
           let k = w g s h in
           let falls = unmarked-falls m b (g .blocks) (k .low) lm new in

@@ -25,7 +25,7 @@ predecessor-count-requires : tie.Need-predecessor-count-requires Inv-loop μ-loo
 predecessor-count-requires c κs = let p = c .before .before .before .before .before .before .pre in ((p .0, p .3 .seen), p .3 .known)
 
 loop-holds : tie.Need-loop-holds Inv-loop μ-loop
-loop-holds c = (c .predecessor-count .ensures .0, refl, refl, refl, schedule-start _ _ _ _ _ (c .predecessor-count .ensures .1))
+loop-holds c = (c .predecessor-count .ensures .0, refl, refl, refl, schedule-start (c .predecessor-count .ensures .1))
 
 predecessor-requires : tie.Need-predecessor-requires Inv-loop μ-loop
 predecessor-requires c κs = let p = c .before .before .before .before .before .before .before .before .before .pre in ((p .0, p .3 .seen), (p .3 .known, omega arith))
@@ -33,7 +33,7 @@ predecessor-requires c κs = let p = c .before .before .before .before .before .
 push-call-requires-2 : tie.Need-push-call-requires-2 Inv-loop μ-loop
 push-call-requires-2 c κs =
     let p = c .before .before .before .before .before .before .before .before .before .before .before .pre in
-    ((_, _, schedule-room _ _ _ _ _ _ _ (c .before .before .loop-test .taken) (c .before .before .before .loop .inv .4) _ _ _ (begin-schedule (p .3) _ _ (c .before .before .before .before .before .before .before .push-call .ensures .0) (c .before .before .before .before .before .before .before .push-call .ensures .1 _ _ (begin-call (p .3))))), tt)
+    ((_, _, schedule-room (c .before .before .loop-test .taken) (c .before .before .before .loop .inv .4) (begin-schedule (p .3) (c .before .before .before .before .before .before .before .push-call .ensures .0) (c .before .before .before .before .before .before .before .push-call .ensures .1 _ _ (begin-call (p .3))))), tt)
 
 loop-again : tie.Need-loop-again Inv-loop μ-loop
 loop-again c = (
@@ -41,7 +41,7 @@ loop-again c = (
   c .before .before .push-call2 .kept .0 ∙ c .before .before .before .before .before .before .loop .inv .1,
   ap (λ (d : Counts). d .values) (c .before .before .push-call2 .ensures .0) ∙ c .before .before .before .before .before .before .loop .inv .2,
   ap (λ (d : Counts). d .call) (c .before .before .push-call2 .ensures .0) ∙ c .before .before .before .before .before .before .loop .inv .3,
-  schedule-next _ _ _ _ _ _ _ (c .before .before .before .before .before .loop-test .taken) (c .before .before .before .before .before .before .loop .inv .4) _ _ _ (c .before .before .before .before .predecessor .ensures .1) (c .before .before .push-call2 .ensures .0) (c .before .before .push-call2 .ensures .1),
+  schedule-next (c .before .before .before .before .before .loop-test .taken) (c .before .before .before .before .before .before .loop .inv .4) (c .before .before .before .before .predecessor .ensures .1) (c .before .before .push-call2 .ensures .0) (c .before .before .push-call2 .ensures .1),
 )
 
 same-length : tie.Need-same-length Inv-loop μ-loop
@@ -51,7 +51,7 @@ returns : tie.Need-returns Inv-loop μ-loop
 returns c = (
   c .before .loop .inv .2 ∙ ap (λ (d : Counts). d .values) (c .before .before .before .before .before .push-call .ensures .0),
   c .before .loop .inv .3 ∙ ap (λ (d : Counts). d .call) (c .before .before .before .before .before .push-call .ensures .0),
-  λ g ts rs h. schedule-end _ _ _ _ _ _ _ (c .loop-test .left) (c .before .loop .inv .4) g _ rs (begin-schedule h _ _ (c .before .before .before .before .before .push-call .ensures .0) (c .before .before .before .before .before .push-call .ensures .1 ts rs (begin-call h))),
+  λ g ts rs h. schedule-end (c .loop-test .left) (c .before .loop .inv .4) g _ rs (begin-schedule h (c .before .before .before .before .before .push-call .ensures .0) (c .before .before .before .before .before .push-call .ensures .1 ts rs (begin-call h))),
 )
 
 pub begin-predecessors-lookup-spec : {M : Type 1} → statement M

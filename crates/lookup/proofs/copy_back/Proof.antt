@@ -14,31 +14,31 @@ abbrev μ-loop : tie.MeasureT-loop
 μ-loop graph form₀ var val to b₀ form b = far graph to (limits .blocks) b
 
 loop-holds : tie.Need-loop-holds Inv-loop μ-loop
-loop-holds c = (refl, copy-start _ _ _ _ _ _)
+loop-holds c = (refl, copy-start)
 
 record-def-requires : tie.Need-record-def-requires Inv-loop μ-loop
-record-def-requires c κs = let p = c .before .before .before .before .before .pre in ((_, copy-has _ _ _ _ _ _ _ _ (c .before .loop-test .taken) (c .before .before .loop .inv .1) _ _ _ (p .0 .3)), p .1)
+record-def-requires c κs = let p = c .before .before .before .before .before .pre in ((_, copy-has (c .before .loop-test .taken) (c .before .before .loop .inv .1) (p .0 .3)), p .1)
 
 single-predecessor-requires : tie.Need-single-predecessor-requires Inv-loop μ-loop
-single-predecessor-requires c κs = let p = c .before .before .before .before .before .before .before .before .pre in ((p .0 .0, p .0 .3 .seen), copy-low _ _ _ _ _ _ _ _ (c .before .before .before .before .loop-test .taken) (c .before .before .before .before .before .loop .inv .1) _ _ _ (p .0 .3))
+single-predecessor-requires c κs = let p = c .before .before .before .before .before .before .before .before .pre in ((p .0 .0, p .0 .3 .seen), copy-low (c .before .before .before .before .loop-test .taken) (c .before .before .before .before .before .loop .inv .1) (p .0 .3))
 
 sub-b : tie.Need-sub-b Inv-loop μ-loop
-sub-b c = let p = c .before .before .before .before .before .before .before .before .before .pre in copy-some _ _ _ _ _ _ _ _ (c .before .before .before .before .before .loop-test .taken) (c .before .before .before .before .before .before .loop .inv .1) _ _ _ (p .0 .3) _ (c .single-predecessor .ensures .1)
+sub-b c = let p = c .before .before .before .before .before .before .before .before .before .pre in copy-some (c .before .before .before .before .before .loop-test .taken) (c .before .before .before .before .before .before .loop .inv .1) (p .0 .3) (c .single-predecessor .ensures .1)
 
 loop-less : tie.Need-loop-less Inv-loop μ-loop
-loop-less c = let p = c .before .before .before .before .before .before .before .before .before .pre in copy-falls _ _ _ _ _ _ _ _ (c .before .before .before .before .before .loop-test .taken) (c .before .before .before .before .before .before .loop .inv .1) _ _ _ (p .0 .3) _ (c .single-predecessor .ensures .1)
+loop-less c = let p = c .before .before .before .before .before .before .before .before .before .pre in copy-falls (c .before .before .before .before .before .loop-test .taken) (c .before .before .before .before .before .before .loop .inv .1) (p .0 .3) (c .single-predecessor .ensures .1)
 
 loop-again : tie.Need-loop-again Inv-loop μ-loop
 loop-again c = (
   c .before .before .before .record-def .kept .0 ∙ c .before .before .before .before .before .before .loop .inv .0,
-  copy-next _ _ _ _ _ _ _ _ (c .before .before .before .before .before .loop-test .taken) (c .before .before .before .before .before .before .loop .inv .1) _ (c .single-predecessor .ensures .1) _ (c .before .before .before .record-def .ensures),
+  copy-next (c .before .before .before .before .before .loop-test .taken) (c .before .before .before .before .before .before .loop .inv .1) (c .single-predecessor .ensures .1) (c .before .before .before .record-def .ensures),
 )
 
 same-length : tie.Need-same-length Inv-loop μ-loop
 same-length c = c .before .loop .inv .0
 
 returns : tie.Need-returns Inv-loop μ-loop
-returns c = λ g s bs h. copy-end _ _ _ _ _ _ _ _ (c .loop-test .left) (c .before .loop .inv .1) g s bs h
+returns c = λ g s bs h. copy-end (c .loop-test .left) (c .before .loop .inv .1) g s bs h
 
 pub copy-back-spec : {M : Type 1} → statement M
 copy-back-spec =

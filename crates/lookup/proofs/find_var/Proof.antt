@@ -13,7 +13,7 @@ push-result-requires : tie.Need-push-result-requires
 push-result-requires c κs = let p = c .before .before .before .before .before .before .before .before .before .before .pre in (p .2, p .3, answer-can (p .4 .asks))
 
 returns : tie.Need-returns
-returns c = λ g s ts rs h. finds-met h (c .before .before .before .before .before .before .before .before .walk .ensures g s (walk-can (h .asks))) (c .before .before .before .before .before .if1 .taken) _ _ refl refl (c .before .before .push-result .ensures)
+returns c = λ g s ts rs h. finds-met h (c .before .before .before .before .before .before .before .before .walk .ensures g s (walk-can (h .asks))) (c .before .before .before .before .before .if1 .taken) refl refl (c .before .before .push-result .ensures)
 
 append-block-param-requires : tie.Need-append-block-param-requires
 append-block-param-requires c κs = let p = c .before .before .before .before .before .before .before .before .before .pre in (p .1, append-can (p .4) (c .before .before .before .before .walk .ensures _ _ (walk-can (p .4 .asks))) (c .before .if1 .left))
@@ -25,7 +25,7 @@ record-def-requires c κs =
     ((_, record-has (p .4) w (c .before .before .before .before .before .if1 .left) (c .before .before .before .append-block-param .ensures)), value-small (p .4) w (c .before .before .before .before .before .if1 .left))
 
 is-sealed-requires : tie.Need-is-sealed-requires
-is-sealed-requires c κs = let p = c .before .before .before .before .before .before .before .before .before .before .before .before .before .before .before .before .pre in ((p .0, p .4 .asks .seen), block-low (p .4) (c .before .before .before .before .before .before .before .before .before .before .before .walk .ensures _ _ (walk-can (p .4 .asks))) (c .before .before .before .before .before .before .before .before .if1 .left))
+is-sealed-requires c κs = let p = c .before .before .before .before .before .before .before .before .before .before .before .before .before .before .before .before .pre in ((p .0, p .4 .asks .seen), block-low (p .4) (c .before .before .before .before .before .before .before .before .before .before .before .walk .ensures _ _ (walk-can (p .4 .asks))))
 
 begin-predecessors-lookup-requires : tie.Need-begin-predecessors-lookup-requires
 begin-predecessors-lookup-requires c κs =
@@ -34,7 +34,7 @@ begin-predecessors-lookup-requires c κs =
 
 returns-2 : tie.Need-returns-2
 returns-2 c = λ g s ts rs h.
-    finds-sealed h (c .before .before .before .before .before .before .before .before .before .before .before .before .before .before .before .before .before .walk .ensures g s (walk-can (h .asks))) (c .before .before .before .before .before .before .before .before .before .before .before .before .before .before .if1 .left) (c .before .before .before .before .before .before .before .before .before .before .before .before .append-block-param .ensures) (c .before .before .before .before .before .before .before .before .record-def .ensures) (c .before .before .before .before .before .is-sealed .ensures) (c .before .before .before .before .if2 .taken) _ _ refl refl
+    finds-sealed h (c .before .before .before .before .before .before .before .before .before .before .before .before .before .before .before .before .before .walk .ensures g s (walk-can (h .asks))) (c .before .before .before .before .before .before .before .before .before .before .before .before .before .before .if1 .left) (c .before .before .before .before .before .before .before .before .before .before .before .before .append-block-param .ensures) (c .before .before .before .before .before .before .before .before .record-def .ensures) (c .before .before .before .before .before .is-sealed .ensures) (c .before .before .before .before .if2 .taken) refl refl
     (c .before .before .begin-predecessors-lookup .ensures)
 
 push-pending-requires : tie.Need-push-pending-requires
@@ -49,7 +49,7 @@ push-result-requires-2 c κs =
 
 returns-3 : tie.Need-returns-3
 returns-3 c = λ g s ts rs h.
-    finds-open h (c .before .before .before .before .before .before .before .before .before .before .before .before .before .before .before .before .before .before .before .before .before .walk .ensures g s (walk-can (h .asks))) (c .before .before .before .before .before .before .before .before .before .before .before .before .before .before .before .before .before .before .if1 .left) (c .before .before .before .before .before .before .before .before .before .before .before .before .before .before .before .before .append-block-param .ensures) (c .before .before .before .before .before .before .before .before .before .before .before .before .record-def .ensures) (c .before .before .before .before .before .before .before .before .before .is-sealed .ensures) (c .before .before .before .before .before .before .before .before .if2 .left) _ _ _ refl refl
+    finds-open h (c .before .before .before .before .before .before .before .before .before .before .before .before .before .before .before .before .before .before .before .before .before .walk .ensures g s (walk-can (h .asks))) (c .before .before .before .before .before .before .before .before .before .before .before .before .before .before .before .before .before .before .if1 .left) (c .before .before .before .before .before .before .before .before .before .before .before .before .before .before .before .before .append-block-param .ensures) (c .before .before .before .before .before .before .before .before .before .before .before .before .record-def .ensures) (c .before .before .before .before .before .before .before .before .before .is-sealed .ensures) (c .before .before .before .before .before .before .before .before .if2 .left) refl refl
     (c .before .before .before .before .before .before .push-pending .ensures) (c .before .before .push-result2 .ensures)
 
 pub find-var-spec : {M : Type 1} → statement M

@@ -13,7 +13,7 @@ push-result-requires : tie.Need-push-result-requires
 push-result-requires c κs = let p = c .before .before .before .before .before .before .before .pre in (p .2, p .3, answer-can (p .4))
 
 returns : tie.Need-returns
-returns c = λ g s ts rs h. visits-known h (c .before .before .before .before .before .definition .ensures) (c .before .before .before .before .if1 .taken) _ _ (c .before .before .push-result .ensures)
+returns c = λ g s ts rs h. visits-known h (c .before .before .before .before .before .definition .ensures) (c .before .before .before .before .if1 .taken) (c .before .before .push-result .ensures)
 
 find-var-requires : tie.Need-find-var-requires
 find-var-requires c κs = let p = c .before .before .before .before .before .before .before .before .pre in (p .0, p .1, p .2, p .3, find-can (p .4) (c .before .before .before .definition .ensures) (c .before .before .if1 .left))
@@ -26,7 +26,7 @@ copy-back-requires c κs =
 
 returns-2 : tie.Need-returns-2
 returns-2 c = λ g s ts rs h.
-    visits-found h (c .before .before .before .before .before .before .before .before .before .before .before .before .before .before .before .definition .ensures) (c .before .before .before .before .before .before .before .before .before .before .before .before .before .before .if1 .left) (c .before .before .before .before .before .before .before .before .before .before .before .find-var .ensures g s ts rs (find-can h (c .before .before .before .before .before .before .before .before .before .before .before .before .before .before .before .definition .ensures) (c .before .before .before .before .before .before .before .before .before .before .before .before .before .before .if1 .left))) _ (c .before .before .copy-back .ensures)
+    visits-found h (c .before .before .before .before .before .before .before .before .before .before .before .before .before .before .before .definition .ensures) (c .before .before .before .before .before .before .before .before .before .before .before .before .before .before .if1 .left) (c .before .before .before .before .before .before .before .before .before .before .before .find-var .ensures g s ts rs (find-can h (c .before .before .before .before .before .before .before .before .before .before .before .before .before .before .before .definition .ensures) (c .before .before .before .before .before .before .before .before .before .before .before .before .before .before .if1 .left))) (c .before .before .copy-back .ensures)
 
 pub use-var-nonlocal-spec : {M : Type 1} → statement M
 use-var-nonlocal-spec =
