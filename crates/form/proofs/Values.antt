@@ -12,7 +12,7 @@ use Rattle.definition.specs.Read.{resolve, make}
 use Rattle.definition.specs.Resolve.{Resolved, ends, targets}
 use Rattle.definition.specs.Tables.{sort-number}
 use Rattle.meaning.proofs.Maps.{put-same, put-other}
-use Rattle.meaning.proofs.Chains.{resolved-same}
+use Rattle.alias.proofs.Walks.{resolved-unique}
 use Rattle.layout.specs.declared.Counts.{Counts}
 use Rattle.layout.specs.Cells.{Table, base, upto}
 use Rattle.layout.specs.Counts.{more}
@@ -81,4 +81,4 @@ resolve-is l c x k y s p r =
     let all : take (base form-sizes 2 + c .values - base form-sizes 2) (drop (base form-sizes 2) l) ≡ targets s
     = rw (p .shows .next) (column-list form-sizes l (form-tables s) 2 (p .shows .cells) (s .next) (s .target) refl (p .room) (omega (arith, p .shows .cells .long))) in
     let own : Resolved (targets s) x k y = rw all at r in
-    resolved-same (targets s) x k y 0 (resolve s x) own (ends (p .ends)) .1
+    resolved-unique own (ends (p .ends)) .1
