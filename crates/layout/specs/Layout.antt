@@ -8,7 +8,7 @@ use Rattle.entity.specs.Limits.{limits, row-cells, zero-room, value-room, param
 use Rattle.definition.specs.Form.{Graph, Form, def}
 use Rattle.definition.specs.Session.{bit}
 use Rattle.definition.specs.Tables.{sort-number, plus-one}
-use Rattle.meaning.specs.Machine.{Task, look, finish}
+use Rattle.meaning.specs.Machine.{Task, look, finish, Conf}
 use Rattle.layout.specs.declared.Counts.{Counts}
 use Rattle.layout.specs.Cells.{Table, sum, render, Holds, grid, cell, rows, upto, pile}
 
@@ -117,3 +117,8 @@ pub record Stacks (lent : List ℕ) (c : Counts) (ts : List Task) (rs : List ℕ
   pub cells : Holds work-sizes lent (work-tables ts rs)
   pub calls : c .calls ≡ length ts
   pub results : c .results ≡ length rs
+
+-- the lent cells show a configuration of the machine
+pub record Shown (fl wl : List ℕ) (c : Counts) (k : Conf) : Type 0 where
+  pub form : Shows fl c (k .form)
+  pub work : Stacks wl c (k .tasks) (k .results)
