@@ -1,0 +1,3 @@
+pub mod Resolves
+pub mod Judges
+pub mod Feeds
