@@ -87,3 +87,70 @@ fn append_argument(graph: &[u32], form: &mut [u32], branch: Branch, dest: Block,
         i += 1;
     }
 }
+
+// Each predecessor's result, unresolved, becomes an argument of its branch.
+fn append_arguments(graph: &[u32], form: &mut [u32], work: &[u32], c: Counts, dest: Block)
+    requires { ⌜ All-with (Can-feed-all (now graph) (now form) (now work) c (dest .0)) ⌝ }
+    ensures { λ r. ⌜ ((g : Graph) → (s : Form) → (ts : List Task) → (rs : List ℕ) → Can-feed-all (now (graph .entry)) (now (form .entry)) (now (work .entry)) c (dest .0) g s ts rs
+        → Cells (now (form .exit)) (with-args s (feed-all g (dest .0) (g .preds (dest .0)) (lasts (length (g .preds (dest .0))) rs) (s .args)))) ⌝ }
+{
+    let n = graph::predecessor_count(graph, dest);
+    let mut i: u32 = 0;
+    while i < n {
+        let p = graph::predecessor(graph, dest, i);
+        let r = work::result(work, c, n, i);
+        append_argument(graph, form, p, dest, r);
+        i += 1;
+    }
+}
+
+// A zero of the sentinel's type in the block, which is placed and logged for it.
+fn emit_zero(form: &mut [u32], c: Counts, sentinel: Value, dest: Block) -> Counts
+    requires { ⌜ Ex (Can-zero (now form) c (sentinel .0) (dest .0)) ⌝ }
+    ensures { λ r. ⌜ (r ≡ more c)
+        × ((s : Form) → Can-zero (now (form .entry)) c (sentinel .0) (dest .0) s → Shows (now (form .exit)) (more c) (zeroed (c .call) (sentinel .0) (dest .0) s)) ⌝ }
+{
+    let ty = form::value_type(form, sentinel);
+    form::place_block(form, dest);
+    form::log_zero(form, c, dest);
+    form::make(form, c, form::ZERO, ty, dest)
+}
+
+// The parameter leaves its block and becomes another name of the value. What records it or has taken it keeps it.
+fn replace_param(form: &mut [u32], block: Block, param: Value, val: Value)
+    requires { ⌜ Ex (Can-alias (now form) (param .0) (block .0)) ⌝ }
+    ensures { λ r. ⌜ ((s : Form) → Can-alias (now (form .entry)) (param .0) (block .0) s → Cells (now (form .exit)) (alias-of (block .0) (param .0) (val .0) s)) ⌝ }
+{
+    form::remove_block_param(form, block, param);
+    form::change_to_alias(form, param, val);
+}
+
+// Settles the sentinel by the results of the block's predecessors, which leave the stack: where they agree it becomes another name, of a zero if there are none.
+pub fn finish_predecessors_lookup(graph: &[u32], form: &mut [u32], work: &mut [u32], c: Counts, sentinel: Value, dest: Block) -> Finished
+    requires { ⌜ All-with (Can-settle (now graph) (now form) (now work) c (sentinel .0) (dest .0)) ⌝ }
+    ensures { λ r. ⌜ ((g : Graph) → (s : Form) → (ts : List Task) → (rs : List ℕ)
+        → Can-settle (now (graph .entry)) (now (form .entry)) (now (work .entry)) c (sentinel .0) (dest .0) g s ts rs
+        → Settled (now (form .exit)) (now (work .exit)) (c .call) r (sentinel .0) (dest .0) g s ts rs) ⌝ }
+{
+    let n = graph::predecessor_count(graph, dest);
+    let verdict = agree(form, work, c, n, sentinel);
+    match verdict {
+        Agreement::Nothing => {
+            let zero = Value(c.values);
+            let d = emit_zero(form, c, sentinel, dest);
+            replace_param(form, dest, sentinel, zero);
+            let e = work::drop_results(work, d, n);
+            Finished(zero, e)
+        }
+        Agreement::One(val) => {
+            replace_param(form, dest, sentinel, val);
+            let e = work::drop_results(work, c, n);
+            Finished(val, e)
+        }
+        Agreement::Many => {
+            append_arguments(graph, form, work, c, dest);
+            let e = work::drop_results(work, c, n);
+            Finished(sentinel, e)
+        }
+    }
+}
