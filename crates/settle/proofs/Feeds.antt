@@ -6,11 +6,9 @@ use mathlib.Core.Logic.{_≢_, _⊎_, inl, inr}
 use mathlib.Core.Bool.{Bool, true, false, _&&_}
 use mathlib.Core.List.{List, [], _∷_, _++_}
 use native.Mathlib.Omega.{arith}
-use native.Mathlib.Nat.{not-suc-le-zero, le-of-suc-le-suc}
 use native.Mathlib.Numerals.{add-one}
 use lib.ListN.{length, getD, take, drop}
 use lib.Seq.{take-all, take-suc, length-take-le, split-at}
-use Rattle.entity.specs.Limits.{limits}
 use Rattle.definition.specs.Base.{_=?_, if_then_else_, put₂, _∷ʳ_}
 use Rattle.definition.specs.Form.{Graph, Form, with-args}
 use Rattle.definition.specs.Read.{is-dest, feed, feed-all}
@@ -103,8 +101,8 @@ module _ (gl l₀ : List ℕ) (p b x : ℕ) where
       pub feed-skip : (d ≡ b → ⊥) → Feeding l (k + 1)
       feed-skip n g s h =
           let off : is-dest (g .dests p) k b ≡ false = elim (bool? (is-dest (g .dests p) k b)) [
-            inl e ↦ absurd (n (D g (h .seen) ∙ dest-is (g .dests p) k b e .1))
-          | inr e ↦ e
+            | inl e ↦ absurd (n (D g (h .seen) ∙ dest-is (g .dests p) k b e .1))
+            | inr e ↦ e
           ] in
           rw add-one (subst (λ (us : ℕ → ℕ → List ℕ). Cells l (with-args s us)) (passed-by p b x (g .dests p) (s .args) k off) (F g s h))
 
@@ -210,5 +208,5 @@ module _ (gl l₀ wl : List ℕ) (c : Counts) (b : ℕ) where
       feed-all-next l₁ A g s ts rs h =
           let us = feed-all g b (take k (g .preds b)) (take k (lasts (length (g .preds b)) rs)) (s .args) in
           let next : feed p b r (g .dests p) us ≡ feed-all g b (take (suc k) (g .preds b)) (take (suc k) (lasts (length (g .preds b)) rs)) (s .args) =
-              rw (P g (h .seen), r-is g s ts rs h) (fed-by-next g b (g .preds b) (lasts (length (g .preds b)) rs) (s .args) (paired g s ts rs h) k (inside g s ts rs h)) in
+          rw (P g (h .seen), r-is g s ts rs h) (fed-by-next g b (g .preds b) (lasts (length (g .preds b)) rs) (s .args) (paired g s ts rs h) k (inside g s ts rs h)) in
           rw add-one (subst (λ (vs : ℕ → ℕ → List ℕ). Cells l₁ (with-args s vs)) next (A g (with-args s us) (branch-room g s ts rs h)))

@@ -1,6 +1,6 @@
 -- Settling step by step: what holds at each call, and that what the results say decides as the definition's `settle` does.
 -- Assumes nothing.
-use Prim.Native.Nat.{ℕ, _≤_, _<_}
+use Prim.Native.Nat.{ℕ, _<_}
 use mathlib.Core.Path.{_≡_, refl, sym, ap, _∙_, subst}
 use mathlib.Core.Bool.{Bool, true, false, cond}
 use mathlib.Core.List.{List, [], _∷_, map}
@@ -9,15 +9,15 @@ use lib.Dec.{eqb}
 use lib.ListN.{length, drop}
 use Rattle.entity.specs.declared.Value.{Value}
 use Rattle.entity.specs.Limits.{limits}
-use Rattle.definition.specs.Base.{every, without, put}
-use Rattle.definition.specs.Form.{Graph, Form, Sort, nought, with-args, with-target}
+use Rattle.definition.specs.Base.{every, without}
+use Rattle.definition.specs.Form.{Graph, Form, Sort, nought, with-args}
 use Rattle.definition.specs.Read.{Got, resolve, settle, settle-left, feed-all, set-params, alias, make, log-zero, place-block}
 use Rattle.definition.specs.Tables.{sort-number}
 use Rattle.meaning.specs.Path.{In}
-use Rattle.meaning.specs.Machine.{Task, conf}
+use Rattle.meaning.specs.Machine.{Task}
 use Rattle.layout.specs.declared.Counts.{Counts}
 use Rattle.layout.specs.Counts.{more, results-less}
-use Rattle.layout.specs.Layout.{Shows, Stacks, Shown}
+use Rattle.layout.specs.Layout.{Shows, Stacks}
 use Rattle.graph.specs.Seen.{Seen}
 use Rattle.form.specs.Can.{Cells, Can-make, Can-log, Can-place, Has-value, Has-params}
 use Rattle.work.specs.Work.{Can-take, lasts}

@@ -12,7 +12,8 @@ ghost use Rattle.layout.specs.Counts.{more};
 ghost use Rattle.layout.specs.Layout.{Shows};
 ghost use Rattle.form.specs.Can.{Cells, Ex};
 ghost use Rattle.work.specs.Work.{lasts};
-ghost use Rattle.settle.specs.Settle.{Some-with, All-with, judge, zeroed, Both-with, Can-resolve, Can-agree, Can-feed-branch, Can-feed-all, Can-zero, Can-alias, Can-settle, Settled};
+ghost use Rattle.settle.specs.Settle.{Some-with, Both-with, All-with, Can-resolve, Can-agree, judge, Can-feed-branch, Can-feed-all};
+ghost use Rattle.settle.specs.Settle.{Can-zero, zeroed, Can-alias, Can-settle, Settled};
 use entity::Block;
 use entity::Branch;
 use entity::Value;
@@ -29,7 +30,7 @@ pub enum Agreement {
     Many,
 }
 
-// The value that the other is a name of, itself for none. Every chain of names ends, so the answer's code is 0.
+// The value that this one is a name of, itself for none. Every chain of names ends, so the answer's code is 0.
 fn resolve_aliases(form: &[u32], c: Counts, val: Value) -> Value
     requires { ⌜ Ex (Can-resolve (now form) c (val .0)) ⌝ }
     ensures { λ r. ⌜ r .0 < value-room limits ⌝ }
@@ -91,7 +92,8 @@ fn append_argument(graph: &[u32], form: &mut [u32], branch: Branch, dest: Block,
 // Each predecessor's result, unresolved, becomes an argument of its branch.
 fn append_arguments(graph: &[u32], form: &mut [u32], work: &[u32], c: Counts, dest: Block)
     requires { ⌜ All-with (Can-feed-all (now graph) (now form) (now work) c (dest .0)) ⌝ }
-    ensures { λ r. ⌜ ((g : Graph) → (s : Form) → (ts : List Task) → (rs : List ℕ) → Can-feed-all (now (graph .entry)) (now (form .entry)) (now (work .entry)) c (dest .0) g s ts rs
+    ensures { λ r. ⌜ ((g : Graph) → (s : Form) → (ts : List Task) → (rs : List ℕ)
+        → Can-feed-all (now (graph .entry)) (now (form .entry)) (now (work .entry)) c (dest .0) g s ts rs
         → Cells (now (form .exit)) (with-args s (feed-all g (dest .0) (g .preds (dest .0)) (lasts (length (g .preds (dest .0))) rs) (s .args)))) ⌝ }
 {
     let n = graph::predecessor_count(graph, dest);
@@ -108,7 +110,8 @@ fn append_arguments(graph: &[u32], form: &mut [u32], work: &[u32], c: Counts, de
 fn emit_zero(form: &mut [u32], c: Counts, sentinel: Value, dest: Block) -> Counts
     requires { ⌜ Ex (Can-zero (now form) c (sentinel .0) (dest .0)) ⌝ }
     ensures { λ r. ⌜ (r ≡ more c)
-        × ((s : Form) → Can-zero (now (form .entry)) c (sentinel .0) (dest .0) s → Shows (now (form .exit)) (more c) (zeroed (c .call) (sentinel .0) (dest .0) s)) ⌝ }
+        × ((s : Form) → Can-zero (now (form .entry)) c (sentinel .0) (dest .0) s
+        → Shows (now (form .exit)) (more c) (zeroed (c .call) (sentinel .0) (dest .0) s)) ⌝ }
 {
     let ty = form::value_type(form, sentinel);
     form::place_block(form, dest);
@@ -119,14 +122,23 @@ fn emit_zero(form: &mut [u32], c: Counts, sentinel: Value, dest: Block) -> Count
 // The parameter leaves its block and becomes another name of the value. What records it or has taken it keeps it.
 fn replace_param(form: &mut [u32], block: Block, param: Value, val: Value)
     requires { ⌜ Ex (Can-alias (now form) (param .0) (block .0)) ⌝ }
-    ensures { λ r. ⌜ ((s : Form) → Can-alias (now (form .entry)) (param .0) (block .0) s → Cells (now (form .exit)) (alias-of (block .0) (param .0) (val .0) s)) ⌝ }
+    ensures { λ r. ⌜ ((s : Form) → Can-alias (now (form .entry)) (param .0) (block .0) s
+        → Cells (now (form .exit)) (alias-of (block .0) (param .0) (val .0) s)) ⌝ }
 {
     form::remove_block_param(form, block, param);
     form::change_to_alias(form, param, val);
 }
 
-// Settles the sentinel by the results of the block's predecessors, which leave the stack: where they agree it becomes another name, of a zero if there are none.
-pub fn finish_predecessors_lookup(graph: &[u32], form: &mut [u32], work: &mut [u32], c: Counts, sentinel: Value, dest: Block) -> Finished
+// Settles the sentinel by the results of the block's predecessors, which leave the stack.
+// Where they agree the sentinel is not needed: it becomes another name of that value, or of a zero where nothing else reaches the block.
+pub fn finish_predecessors_lookup(
+    graph: &[u32],
+    form: &mut [u32],
+    work: &mut [u32],
+    c: Counts,
+    sentinel: Value,
+    dest: Block,
+) -> Finished
     requires { ⌜ All-with (Can-settle (now graph) (now form) (now work) c (sentinel .0) (dest .0)) ⌝ }
     ensures { λ r. ⌜ ((g : Graph) → (s : Form) → (ts : List Task) → (rs : List ℕ)
         → Can-settle (now (graph .entry)) (now (form .entry)) (now (work .entry)) c (sentinel .0) (dest .0) g s ts rs
