@@ -1,6 +1,6 @@
 -- What the functions over the cells ask follows of each state that the cells show: every session keeps to the limits, and places a block once.
 -- Assumes nothing.
-use Prim.Native.Nat.{ℕ, suc, _<_, _≤_}
+use Prim.Native.Nat.{ℕ, suc, _<_}
 use mathlib.Core.Path.{_≡_, refl}
 use mathlib.Core.Logic.{inl, inr}
 use mathlib.Core.Option.{some}

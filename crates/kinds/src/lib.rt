@@ -27,27 +27,27 @@ pub struct Reply {
 }
 
 // Codes, as document 01 numbers them.
-const FULL: u32 = 4;
+pub const FULL: u32 = 4;
 
-const SKIPS: u32 = 5;
+pub const SKIPS: u32 = 5;
 
-const ABSENT: u32 = 6;
+pub const ABSENT: u32 = 6;
 
-const OTHER_TYPE: u32 = 7;
+pub const OTHER_TYPE: u32 = 7;
 
-const SEALED: u32 = 8;
+pub const SEALED: u32 = 8;
 
-const BRANCHED: u32 = 9;
+pub const BRANCHED: u32 = 9;
 
-const EIGHT_DESTS: u32 = 10;
+pub const EIGHT_DESTS: u32 = 10;
 
-const DECLARED: u32 = 11;
+pub const DECLARED: u32 = 11;
 
-const DECLARED_HERE: u32 = 12;
+pub const DECLARED_HERE: u32 = 12;
 
-const UNRELATED: u32 = 13;
+pub const UNRELATED: u32 = 13;
 
-fn refuse(code: u32, c: Counts) -> Reply
+pub fn refuse(code: u32, c: Counts) -> Reply
     ensures { λ r. ⌜ r ≡ refusal code c ⌝ }
 {
     Reply {
@@ -57,7 +57,7 @@ fn refuse(code: u32, c: Counts) -> Reply
     }
 }
 
-fn accept(number: u32, c: Counts) -> Reply
+pub fn accept(number: u32, c: Counts) -> Reply
     ensures { λ r. ⌜ r ≡ acceptance number c ⌝ }
 {
     Reply {
@@ -67,7 +67,7 @@ fn accept(number: u32, c: Counts) -> Reply
     }
 }
 
-fn no_block(graph: &[u32], b: u32) -> bool
+pub fn no_block(graph: &[u32], b: u32) -> bool
     requires { ⌜ Graph-with (Seen (now graph)) ⌝ }
     ensures { λ r. ⌜ (r ≡ false → b < limits .blocks) ⌝ }
     ensures { λ r. ⌜ ((g : Graph) → (s : Form) → Seen (now (graph .entry)) g → r ≡ no-block g s b) ⌝ }
@@ -75,7 +75,7 @@ fn no_block(graph: &[u32], b: u32) -> bool
     graph::block_count(graph) <= b
 }
 
-fn no_var(graph: &[u32], v: u32) -> bool
+pub fn no_var(graph: &[u32], v: u32) -> bool
     requires { ⌜ Graph-with (Seen (now graph)) ⌝ }
     ensures { λ r. ⌜ (r ≡ false → v < limits .variables) ⌝ }
     ensures { λ r. ⌜ ((g : Graph) → (s : Form) → Seen (now (graph .entry)) g → r ≡ no-var g s v) ⌝ }
@@ -84,7 +84,7 @@ fn no_var(graph: &[u32], v: u32) -> bool
 }
 
 // A branch bears its block's number.
-fn no_branch(graph: &[u32], p: u32) -> bool
+pub fn no_branch(graph: &[u32], p: u32) -> bool
     requires { ⌜ Graph-with (Seen (now graph)) ⌝ }
     ensures { λ r. ⌜ (r ≡ false → p < limits .blocks) ⌝ }
     ensures { λ r. ⌜ ((g : Graph) → (s : Form) → Seen (now (graph .entry)) g → r ≡ no-branch g s p) ⌝ }
@@ -103,11 +103,11 @@ pub fn declare_block(graph: &mut [u32], form: &mut [u32], c: Counts, x: u32) -> 
     if entity::BLOCKS <= x {
         return refuse(FULL, c);
     }
-    let n = graph::block_count(graph);
-    if n < x {
+    let known = graph::block_count(graph);
+    if known < x {
         return refuse(SKIPS, c);
     }
-    if x < n {
+    if x < known {
         return accept(x, c);
     }
     graph::declare_block(graph, Block(x));
@@ -226,10 +226,11 @@ pub fn new_dest(graph: &mut [u32], c: Counts, x: u32, y: u32) -> Reply
     if no_block(graph, y) {
         return refuse(ABSENT, c);
     }
-    if graph::is_declared(graph, Branch(x)) {
+    let declared = graph::is_declared(graph, Branch(x));
+    let n = graph::dest_count(graph, Branch(x));
+    if declared {
         return refuse(DECLARED, c);
     }
-    let n = graph::dest_count(graph, Branch(x));
     if entity::DESTS <= n {
         return refuse(EIGHT_DESTS, c);
     }

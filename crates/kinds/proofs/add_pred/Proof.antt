@@ -4,7 +4,6 @@ use borrow.Author.Needs.{needs}
 use borrow.Author.Tests.{not-true, not-false}
 use native.Mathlib.Omega.{arith}
 use mathlib.Core.Path.{refl}
-use Rattle.definition.specs.Session.{no-block, no-branch, is-sealed}
 use Rattle.kinds.proofs.Asked.{seen, seen-some, cells}
 use Rattle.kinds.proofs.Answered.{tested, refused, changed, accepted}
 use Rattle.kinds.proofs.add_pred.Statement.{statement}
@@ -38,9 +37,7 @@ names-requires c κs = (seen-some (c .before .before .before .before .before .be
 returns-4 : tie.Need-returns-4
 returns-4 c = λ fl t h.
     rw (
-      tested (c .before .before .before .before .before .before .before .before .before .before .before .no-block .ensures .1 _ (t .form) (seen h)) (c .before .before .before .before .before .before .before .before .before .before .if1 .left),
-      tested (c .before .before .before .before .before .before .before .before .no-branch .ensures .1 _ (t .form) (seen h)) (c .before .before .before .before .before .before .before .if2 .left),
-      tested (c .before .before .before .before .before .is-sealed .ensures _ (seen h)) (c .before .before .before .before .if3 .left),
+      tested (c .before .before .before .before .before .before .before .before .before .before .before .no-block .ensures .1 _ (t .form) (seen h)) (c .before .before .before .before .before .before .before .before .before .before .if1 .left), tested (c .before .before .before .before .before .before .before .before .no-branch .ensures .1 _ (t .form) (seen h)) (c .before .before .before .before .before .before .before .if2 .left), tested (c .before .before .before .before .before .is-sealed .ensures _ (seen h)) (c .before .before .before .before .if3 .left),
       tested (c .before .before .names .ensures _ (seen h)) (not-true _ (c .before .if4 .taken)),
     )
     (refused h (c .refuse4 .ensures))
@@ -51,11 +48,8 @@ is-predecessor-requires c κs = (seen-some (c .before .before .before .before .b
 returns-5 : tie.Need-returns-5
 returns-5 c = λ fl t h.
     rw (
-      tested (c .before .before .before .before .before .before .before .before .before .before .before .before .before .before .no-block .ensures .1 _ (t .form) (seen h)) (c .before .before .before .before .before .before .before .before .before .before .before .before .before .if1 .left),
-      tested (c .before .before .before .before .before .before .before .before .before .before .before .no-branch .ensures .1 _ (t .form) (seen h)) (c .before .before .before .before .before .before .before .before .before .before .if2 .left),
-      tested (c .before .before .before .before .before .before .before .before .is-sealed .ensures _ (seen h)) (c .before .before .before .before .before .before .before .if3 .left),
-      tested (c .before .before .before .before .before .names .ensures _ (seen h)) (not-false _ (c .before .before .before .before .if4 .left)),
-      tested (c .before .before .is-predecessor .ensures _ (seen h)) (c .before .if5 .taken),
+      tested (c .before .before .before .before .before .before .before .before .before .before .before .before .before .before .no-block .ensures .1 _ (t .form) (seen h)) (c .before .before .before .before .before .before .before .before .before .before .before .before .before .if1 .left), tested (c .before .before .before .before .before .before .before .before .before .before .before .no-branch .ensures .1 _ (t .form) (seen h)) (c .before .before .before .before .before .before .before .before .before .before .if2 .left), tested (c .before .before .before .before .before .before .before .before .is-sealed .ensures _ (seen h)) (c .before .before .before .before .before .before .before .if3 .left),
+      tested (c .before .before .before .before .before .names .ensures _ (seen h)) (not-false _ (c .before .before .before .before .if4 .left)), tested (c .before .before .is-predecessor .ensures _ (seen h)) (c .before .if5 .taken),
     )
     (refused h (c .refuse5 .ensures))
 
@@ -66,17 +60,14 @@ declare-block-predecessor-requires : tie.Need-declare-block-predecessor-requires
 declare-block-predecessor-requires c κs = (
   (_, record { seen = seen (c .before .before .before .before .before .before .before .before .before .before .before .before .before .before .before .before .before .before .before .pre .1 .1); new = tested (c .before .before .before .before .is-predecessor .ensures _ (seen (c .before .before .before .before .before .before .before .before .before .before .before .before .before .before .before .before .before .before .before .pre .1 .1))) (c .before .before .before .if5 .left) }),
   (c .before .before .before .before .before .before .before .before .before .before .before .before .before .before .before .before .no-block .ensures .0 (c .before .before .before .before .before .before .before .before .before .before .before .before .before .before .before .if1 .left), c .before .before .before .before .before .before .before .before .before .before .before .before .before .no-branch .ensures .0 (c .before .before .before .before .before .before .before .before .before .before .before .before .if2 .left)),
-)
+  )
 
 returns-6 : tie.Need-returns-6
 returns-6 c = λ fl t h.
     let new = tested (c .before .before .before .before .before .before .before .before .is-predecessor .ensures _ (seen h)) (c .before .before .before .before .before .before .before .if5 .left) in
     rw (
-      tested (c .before .before .before .before .before .before .before .before .before .before .before .before .before .before .before .before .before .before .before .before .no-block .ensures .1 _ (t .form) (seen h)) (c .before .before .before .before .before .before .before .before .before .before .before .before .before .before .before .before .before .before .before .if1 .left),
-      tested (c .before .before .before .before .before .before .before .before .before .before .before .before .before .before .before .before .before .no-branch .ensures .1 _ (t .form) (seen h)) (c .before .before .before .before .before .before .before .before .before .before .before .before .before .before .before .before .if2 .left),
-      tested (c .before .before .before .before .before .before .before .before .before .before .before .before .before .before .is-sealed .ensures _ (seen h)) (c .before .before .before .before .before .before .before .before .before .before .before .before .before .if3 .left),
-      tested (c .before .before .before .before .before .before .before .before .before .before .before .names .ensures _ (seen h)) (not-false _ (c .before .before .before .before .before .before .before .before .before .before .if4 .left)),
-      new,
+      tested (c .before .before .before .before .before .before .before .before .before .before .before .before .before .before .before .before .before .before .before .before .no-block .ensures .1 _ (t .form) (seen h)) (c .before .before .before .before .before .before .before .before .before .before .before .before .before .before .before .before .before .before .before .if1 .left), tested (c .before .before .before .before .before .before .before .before .before .before .before .before .before .before .before .before .before .no-branch .ensures .1 _ (t .form) (seen h)) (c .before .before .before .before .before .before .before .before .before .before .before .before .before .before .before .before .if2 .left), tested (c .before .before .before .before .before .before .before .before .before .before .before .before .before .before .is-sealed .ensures _ (seen h)) (c .before .before .before .before .before .before .before .before .before .before .before .before .before .if3 .left),
+      tested (c .before .before .before .before .before .before .before .before .before .before .before .names .ensures _ (seen h)) (not-false _ (c .before .before .before .before .before .before .before .before .before .before .if4 .left)), new,
     )
     (accepted (c .accept .ensures) (omega (arith, c .before .before .before .before .before .predecessor-count .ensures .1 _ (seen h))) (changed h refl refl (c .before .before .before .declare-block-predecessor .ensures _ (record { seen = seen h; new = new })) (cells h)))
 

@@ -5,8 +5,6 @@ use borrow.Author.Tests.{lt-ltb, le-ltb, le-leb, lt-leb, eq-eqb, ne-eqb}
 use native.Mathlib.Omega.{arith}
 use mathlib.Core.Path.{refl}
 use Rattle.entity.specs.Limits.{limits}
-use Rattle.definition.specs.Read.{place-block}
-use Rattle.definition.specs.Session.{declare-block}
 use Rattle.kinds.proofs.Asked.{seen, seen-some, cells, can-place}
 use Rattle.kinds.proofs.Answered.{refused, changed, accepted}
 use Rattle.kinds.proofs.declare_block.Statement.{statement}

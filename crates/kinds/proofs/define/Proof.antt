@@ -3,9 +3,8 @@
 use borrow.Author.Needs.{needs}
 use borrow.Author.Tests.{le-leb, lt-leb, eq-eqb, ne-eqb}
 use mathlib.Core.Path.{refl, sym, _∙_}
-use Rattle.definition.specs.Read.{type-of, write}
-use Rattle.definition.specs.Session.{no-block, no-var, define}
-use Rattle.kinds.proofs.Asked.{seen, seen-some, cells, has-value, value-small, has-def}
+use Rattle.definition.specs.Read.{type-of}
+use Rattle.kinds.proofs.Asked.{seen, seen-some, has-value, value-small, has-def}
 use Rattle.kinds.proofs.Answered.{tested, refused, changed, accepted}
 use Rattle.kinds.proofs.define.Statement.{statement}
 use Rattle.kinds.proofs.define.Tie as tie
@@ -38,9 +37,7 @@ variable-type-requires c κs = (seen-some (c .before .before .before .before .be
 returns-4 : tie.Need-returns-4
 returns-4 c = λ t h.
     rw (
-      tested (c .before .before .before .before .before .before .before .before .before .before .no-var .ensures .1 _ (t .form) (seen h)) (c .before .before .before .before .before .before .before .before .before .if1 .left),
-      lt-leb (t .form .next) (c .before .before .before .before .before .before .before .before .before .before .before .before .before .args .y) (rw (← h .leaves .form .next) (c .before .before .before .before .before .before .before .if2 .left)),
-      tested (c .before .before .before .before .before .before .no-block .ensures .1 _ (t .form) (seen h)) (c .before .before .before .before .before .if3 .left),
+      tested (c .before .before .before .before .before .before .before .before .before .before .no-var .ensures .1 _ (t .form) (seen h)) (c .before .before .before .before .before .before .before .before .before .if1 .left), lt-leb (t .form .next) (c .before .before .before .before .before .before .before .before .before .before .before .before .before .args .y) (rw (← h .leaves .form .next) (c .before .before .before .before .before .before .before .if2 .left)), tested (c .before .before .before .before .before .before .no-block .ensures .1 _ (t .form) (seen h)) (c .before .before .before .before .before .if3 .left),
       ne-eqb (t .form .info (c .before .before .before .before .before .before .before .before .before .before .before .before .before .args .y) .type) (type-of (t .graph) (c .before .before .before .before .before .before .before .before .before .before .before .before .before .args .x)) (λ q. c .before .if4 .taken (c .before .before .before .value-type .ensures _ (has-value h _ (rw (← h .leaves .form .next) (c .before .before .before .before .before .before .before .if2 .left))) ∙ q ∙ sym (c .before .before .variable-type .ensures _ (seen h)))),
     )
     (refused h (c .refuse4 .ensures))
@@ -51,9 +48,7 @@ record-def-requires c κs = ((_, has-def (c .before .before .before .before .bef
 returns-5 : tie.Need-returns-5
 returns-5 c = λ t h.
     rw (
-      tested (c .before .before .before .before .before .before .before .before .before .before .before .before .before .before .no-var .ensures .1 _ (t .form) (seen h)) (c .before .before .before .before .before .before .before .before .before .before .before .before .before .if1 .left),
-      lt-leb (t .form .next) (c .before .before .before .before .before .before .before .before .before .before .before .before .before .before .before .before .before .args .y) (rw (← h .leaves .form .next) (c .before .before .before .before .before .before .before .before .before .before .before .if2 .left)),
-      tested (c .before .before .before .before .before .before .before .before .before .before .no-block .ensures .1 _ (t .form) (seen h)) (c .before .before .before .before .before .before .before .before .before .if3 .left),
+      tested (c .before .before .before .before .before .before .before .before .before .before .before .before .before .before .no-var .ensures .1 _ (t .form) (seen h)) (c .before .before .before .before .before .before .before .before .before .before .before .before .before .if1 .left), lt-leb (t .form .next) (c .before .before .before .before .before .before .before .before .before .before .before .before .before .before .before .before .before .args .y) (rw (← h .leaves .form .next) (c .before .before .before .before .before .before .before .before .before .before .before .if2 .left)), tested (c .before .before .before .before .before .before .before .before .before .before .no-block .ensures .1 _ (t .form) (seen h)) (c .before .before .before .before .before .before .before .before .before .if3 .left),
       eq-eqb (t .form .info (c .before .before .before .before .before .before .before .before .before .before .before .before .before .before .before .before .before .args .y) .type) (type-of (t .graph) (c .before .before .before .before .before .before .before .before .before .before .before .before .before .before .before .before .before .args .x)) (tested (c .before .before .before .before .before .before .before .value-type .ensures _ (has-value h _ (rw (← h .leaves .form .next) (c .before .before .before .before .before .before .before .before .before .before .before .if2 .left)))) (c .before .before .before .before .before .if4 .left) ∙ c .before .before .before .before .before .before .variable-type .ensures _ (seen h)),
     )
     (accepted (c .accept .ensures) refl (changed h refl refl (seen h .cells) (c .before .before .before .record-def .ensures .own _ (has-def h _ _ (c .before .before .before .before .before .before .before .before .before .before .before .before .before .before .no-var .ensures .0 (c .before .before .before .before .before .before .before .before .before .before .before .before .before .if1 .left)) (c .before .before .before .before .before .before .before .before .before .before .no-block .ensures .0 (c .before .before .before .before .before .before .before .before .before .if3 .left))))))

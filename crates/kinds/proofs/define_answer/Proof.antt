@@ -1,7 +1,6 @@
 -- `define_answer` meets its contract: without an earlier answer it is refused, else it is `define` with that answer.
 -- Assumes nothing.
 use borrow.Author.Needs.{needs}
-use Rattle.definition.specs.Session.{define}
 use Rattle.kinds.proofs.Answered.{refused, no-answer, an-answer}
 use Rattle.kinds.proofs.define_answer.Statement.{statement}
 use Rattle.kinds.proofs.define_answer.Tie as tie

@@ -3,7 +3,6 @@
 use borrow.Author.Needs.{needs}
 use borrow.Author.Tests.{not-true, not-false}
 use mathlib.Core.Path.{refl}
-use Rattle.definition.specs.Session.{no-block, no-branch, is-sealed}
 use Rattle.kinds.proofs.Asked.{seen, seen-some, cells}
 use Rattle.kinds.proofs.Answered.{tested, refused, changed, accepted}
 use Rattle.kinds.proofs.drop_pred.Statement.{statement}
@@ -37,9 +36,7 @@ is-predecessor-requires c κs = (seen-some (c .before .before .before .before .b
 returns-4 : tie.Need-returns-4
 returns-4 c = λ fl t h.
     rw (
-      tested (c .before .before .before .before .before .before .before .before .before .before .before .no-block .ensures .1 _ (t .form) (seen h)) (c .before .before .before .before .before .before .before .before .before .before .if1 .left),
-      tested (c .before .before .before .before .before .before .before .before .no-branch .ensures .1 _ (t .form) (seen h)) (c .before .before .before .before .before .before .before .if2 .left),
-      tested (c .before .before .before .before .before .is-sealed .ensures _ (seen h)) (c .before .before .before .before .if3 .left),
+      tested (c .before .before .before .before .before .before .before .before .before .before .before .no-block .ensures .1 _ (t .form) (seen h)) (c .before .before .before .before .before .before .before .before .before .before .if1 .left), tested (c .before .before .before .before .before .before .before .before .no-branch .ensures .1 _ (t .form) (seen h)) (c .before .before .before .before .before .before .before .if2 .left), tested (c .before .before .before .before .before .is-sealed .ensures _ (seen h)) (c .before .before .before .before .if3 .left),
       tested (c .before .before .is-predecessor .ensures _ (seen h)) (not-true _ (c .before .if4 .taken)),
     )
     (refused h (c .refuse4 .ensures))
@@ -48,16 +45,14 @@ remove-block-predecessor-requires : tie.Need-remove-block-predecessor-requires
 remove-block-predecessor-requires c κs = (
   (_, record { seen = seen (c .before .before .before .before .before .before .before .before .before .before .before .before .before .before .pre .1 .1); there = tested (c .before .before .is-predecessor .ensures _ (seen (c .before .before .before .before .before .before .before .before .before .before .before .before .before .before .pre .1 .1))) (not-false _ (c .before .if4 .left)) }),
   c .before .before .before .before .before .before .before .before .before .before .before .no-block .ensures .0 (c .before .before .before .before .before .before .before .before .before .before .if1 .left),
-)
+  )
 
 returns-5 : tie.Need-returns-5
 returns-5 c = λ fl t h.
     let there = tested (c .before .before .before .before .before .before .is-predecessor .ensures _ (seen h)) (not-false _ (c .before .before .before .before .before .if4 .left)) in
     let removed = c .before .before .before .remove-block-predecessor .ensures _ (record { seen = seen h; there = there }) in
     rw (
-      tested (c .before .before .before .before .before .before .before .before .before .before .before .before .before .before .before .no-block .ensures .1 _ (t .form) (seen h)) (c .before .before .before .before .before .before .before .before .before .before .before .before .before .before .if1 .left),
-      tested (c .before .before .before .before .before .before .before .before .before .before .before .before .no-branch .ensures .1 _ (t .form) (seen h)) (c .before .before .before .before .before .before .before .before .before .before .before .if2 .left),
-      tested (c .before .before .before .before .before .before .before .before .before .is-sealed .ensures _ (seen h)) (c .before .before .before .before .before .before .before .before .if3 .left),
+      tested (c .before .before .before .before .before .before .before .before .before .before .before .before .before .before .before .no-block .ensures .1 _ (t .form) (seen h)) (c .before .before .before .before .before .before .before .before .before .before .before .before .before .before .if1 .left), tested (c .before .before .before .before .before .before .before .before .before .before .before .before .no-branch .ensures .1 _ (t .form) (seen h)) (c .before .before .before .before .before .before .before .before .before .before .before .if2 .left), tested (c .before .before .before .before .before .before .before .before .before .is-sealed .ensures _ (seen h)) (c .before .before .before .before .before .before .before .before .if3 .left),
       there,
     )
     (accepted (c .accept .ensures) (removed .0) (changed h refl refl (removed .1) (cells h)))

@@ -3,8 +3,6 @@
 use borrow.Author.Needs.{needs}
 use borrow.Author.Tests.{ne-eqb}
 use mathlib.Core.Path.{refl, _∙_}
-use Rattle.definition.specs.Base.{has}
-use Rattle.definition.specs.Session.{no-block}
 use Rattle.kinds.proofs.Asked.{seen, seen-some}
 use Rattle.kinds.proofs.Answered.{tested, refused, accepted}
 use Rattle.kinds.proofs.has_any_predecessors.Statement.{statement}

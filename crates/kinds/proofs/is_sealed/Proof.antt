@@ -2,8 +2,6 @@
 -- Assumes nothing.
 use borrow.Author.Needs.{needs}
 use mathlib.Core.Path.{refl}
-use Rattle.definition.specs.Base.{has}
-use Rattle.definition.specs.Session.{no-block, is-sealed}
 use Rattle.kinds.proofs.Asked.{seen, seen-some}
 use Rattle.kinds.proofs.Answered.{tested, refused, accepted}
 use Rattle.kinds.proofs.is_sealed.Statement.{statement}

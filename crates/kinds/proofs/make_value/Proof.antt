@@ -7,8 +7,6 @@ use mathlib.Core.Path.{refl}
 use Rattle.entity.specs.Limits.{limits}
 use Rattle.entity.specs.Types.{type-count}
 use Rattle.definition.specs.Form.{made, with-makes}
-use Rattle.definition.specs.Read.{place-block}
-use Rattle.definition.specs.Session.{no-block}
 use Rattle.kinds.proofs.Asked.{seen, seen-some, cells, can-place, can-count, can-make}
 use Rattle.kinds.proofs.Answered.{tested, refused, value-added, accepted}
 use Rattle.kinds.proofs.make_value.Statement.{statement}
@@ -45,13 +43,13 @@ count-made-requires : tie.Need-count-made-requires
 count-made-requires c κs = (_, can-count (c .before .before .before .before .before .before .before .before .before .before .before .pre .1) (rw (← c .before .before .made-count .ensures (c .before .before .before .before .before .before .before .before .before .before .before .pre .0 .form) (cells (c .before .before .before .before .before .before .before .before .before .before .before .pre .1))) (c .before .if4 .left)))
 
 place-block-requires : tie.Need-place-block-requires
-place-block-requires c κs =
+place-block-requires c κs = 
     let h = c .before .before .before .before .before .before .before .before .before .before .before .before .before .before .before .pre .1 in
     let room : c .before .before .before .before .before .before .before .before .before .before .before .before .before .before .before .pre .0 .form .makes < limits .made = rw (← c .before .before .before .before .before .before .made-count .ensures (c .before .before .before .before .before .before .before .before .before .before .before .before .before .before .before .pre .0 .form) (cells h)) (c .before .before .before .before .before .if4 .left) in
     (_, can-place h (with-makes (c .before .before .before .before .before .before .before .before .before .before .before .before .before .before .before .pre .0 .form) (suc (c .before .before .before .before .before .before .before .before .before .before .before .before .before .before .before .pre .0 .form .makes))) refl (c .before .before .before .count-made .ensures _ (can-count h room)) _ (c .before .before .before .before .before .before .before .before .before .before .before .before .no-block .ensures .0 (c .before .before .before .before .before .before .before .before .before .before .before .if1 .left)))
 
 make-requires : tie.Need-make-requires
-make-requires c κs =
+make-requires c κs = 
     let h = c .before .before .before .before .before .before .before .before .before .before .before .before .before .before .before .before .before .before .before .pre .1 in
     let room : c .before .before .before .before .before .before .before .before .before .before .before .before .before .before .before .before .before .before .before .pre .0 .form .makes < limits .made = rw (← c .before .before .before .before .before .before .before .before .before .before .made-count .ensures (c .before .before .before .before .before .before .before .before .before .before .before .before .before .before .before .before .before .before .before .pre .0 .form) (cells h)) (c .before .before .before .before .before .before .before .before .before .if4 .left) in
     (_, can-make h room _ (c .before .before .before .place-block .ensures _ (can-place h (with-makes (c .before .before .before .before .before .before .before .before .before .before .before .before .before .before .before .before .before .before .before .pre .0 .form) (suc (c .before .before .before .before .before .before .before .before .before .before .before .before .before .before .before .before .before .before .before .pre .0 .form .makes))) refl (c .before .before .before .before .before .before .before .count-made .ensures _ (can-count h room)) _ (c .before .before .before .before .before .before .before .before .before .before .before .before .before .before .before .before .no-block .ensures .0 (c .before .before .before .before .before .before .before .before .before .before .before .before .before .before .before .if1 .left)))))

@@ -2,8 +2,6 @@
 -- Assumes nothing.
 use borrow.Author.Needs.{needs}
 use mathlib.Core.Path.{refl}
-use Rattle.definition.specs.Read.{place-block}
-use Rattle.definition.specs.Session.{no-block}
 use Rattle.kinds.proofs.Asked.{seen, seen-some, cells, can-place}
 use Rattle.kinds.proofs.Answered.{tested, refused, changed, accepted}
 use Rattle.kinds.proofs.new_branch.Statement.{statement}

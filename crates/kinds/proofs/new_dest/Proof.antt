@@ -5,7 +5,6 @@ use borrow.Author.Tests.{le-leb, lt-leb}
 use mathlib.Core.Path.{refl}
 use lib.ListN.{length}
 use Rattle.entity.specs.Limits.{limits}
-use Rattle.definition.specs.Session.{no-block, no-branch}
 use Rattle.kinds.proofs.Asked.{seen, seen-some, cells}
 use Rattle.kinds.proofs.Answered.{tested, refused, changed, accepted}
 use Rattle.kinds.proofs.new_dest.Statement.{statement}
@@ -28,34 +27,30 @@ returns-2 c = λ fl t h.
 is-declared-requires : tie.Need-is-declared-requires
 is-declared-requires c κs = (seen-some (c .before .before .before .before .before .before .before .before .pre .1), c .before .before .before .before .before .no-branch .ensures .0 (c .before .before .before .before .if1 .left))
 
+dest-count-requires : tie.Need-dest-count-requires
+dest-count-requires c κs = (seen-some (c .before .before .before .before .before .before .before .before .before .before .pre .1), c .before .before .before .before .before .before .before .no-branch .ensures .0 (c .before .before .before .before .before .before .if1 .left))
+
 returns-3 : tie.Need-returns-3
 returns-3 c = λ fl t h.
-    rw (tested (c .before .before .before .before .before .before .before .before .no-branch .ensures .1 _ (t .form) (seen h)) (c .before .before .before .before .before .before .before .if1 .left), tested (c .before .before .before .before .before .no-block .ensures .1 _ (t .form) (seen h)) (c .before .before .before .before .if2 .left), tested (c .before .before .is-declared .ensures _ (seen h)) (c .before .if3 .taken))
+    rw (tested (c .before .before .before .before .before .before .before .before .before .before .no-branch .ensures .1 _ (t .form) (seen h)) (c .before .before .before .before .before .before .before .before .before .if1 .left), tested (c .before .before .before .before .before .before .before .no-block .ensures .1 _ (t .form) (seen h)) (c .before .before .before .before .before .before .if2 .left), tested (c .before .before .before .before .is-declared .ensures _ (seen h)) (c .before .if3 .taken))
     (refused h (c .refuse3 .ensures))
-
-dest-count-requires : tie.Need-dest-count-requires
-dest-count-requires c κs = (seen-some (c .before .before .before .before .before .before .before .before .before .before .before .pre .1), c .before .before .before .before .before .before .before .before .no-branch .ensures .0 (c .before .before .before .before .before .before .before .if1 .left))
 
 returns-4 : tie.Need-returns-4
 returns-4 c = λ fl t h.
     rw (
-      tested (c .before .before .before .before .before .before .before .before .before .before .before .no-branch .ensures .1 _ (t .form) (seen h)) (c .before .before .before .before .before .before .before .before .before .before .if1 .left),
-      tested (c .before .before .before .before .before .before .before .before .no-block .ensures .1 _ (t .form) (seen h)) (c .before .before .before .before .before .before .before .if2 .left),
-      tested (c .before .before .before .before .before .is-declared .ensures _ (seen h)) (c .before .before .before .before .if3 .left),
-      le-leb (limits .dests) (length (t .graph .dests (c .before .before .before .before .before .before .before .before .before .before .before .before .before .before .args .x))) (rw (← c .before .before .dest-count .ensures .1 _ (seen h)) (c .before .if4 .taken)),
+      tested (c .before .before .before .before .before .before .before .before .before .before .before .no-branch .ensures .1 _ (t .form) (seen h)) (c .before .before .before .before .before .before .before .before .before .before .if1 .left), tested (c .before .before .before .before .before .before .before .before .no-block .ensures .1 _ (t .form) (seen h)) (c .before .before .before .before .before .before .before .if2 .left), tested (c .before .before .before .before .before .is-declared .ensures _ (seen h)) (c .before .before .if3 .left),
+      le-leb (limits .dests) (length (t .graph .dests (c .before .before .before .before .before .before .before .before .before .before .before .before .before .before .args .x))) (rw (← c .before .before .before .dest-count .ensures .1 _ (seen h)) (c .before .if4 .taken)),
     )
     (refused h (c .refuse4 .ensures))
 
 declare-dest-requires : tie.Need-declare-dest-requires
-declare-dest-requires c κs = ((_, record { seen = seen (c .before .before .before .before .before .before .before .before .before .before .before .before .before .before .pre .1 .1); room = rw (← c .before .before .dest-count .ensures .1 _ (seen (c .before .before .before .before .before .before .before .before .before .before .before .before .before .before .pre .1 .1))) (c .before .if4 .left) }), c .before .before .before .before .before .before .before .before .before .before .before .no-branch .ensures .0 (c .before .before .before .before .before .before .before .before .before .before .if1 .left))
+declare-dest-requires c κs = ((_, record { seen = seen (c .before .before .before .before .before .before .before .before .before .before .before .before .before .before .pre .1 .1); room = rw (← c .before .before .before .dest-count .ensures .1 _ (seen (c .before .before .before .before .before .before .before .before .before .before .before .before .before .before .pre .1 .1))) (c .before .if4 .left) }), c .before .before .before .before .before .before .before .before .before .before .before .no-branch .ensures .0 (c .before .before .before .before .before .before .before .before .before .before .if1 .left))
 
 returns-5 : tie.Need-returns-5
 returns-5 c = λ fl t h.
-    let count = c .before .before .before .before .before .before .dest-count .ensures .1 _ (seen h) in
+    let count = c .before .before .before .before .before .before .before .dest-count .ensures .1 _ (seen h) in
     rw (
-      tested (c .before .before .before .before .before .before .before .before .before .before .before .before .before .before .before .no-branch .ensures .1 _ (t .form) (seen h)) (c .before .before .before .before .before .before .before .before .before .before .before .before .before .before .if1 .left),
-      tested (c .before .before .before .before .before .before .before .before .before .before .before .before .no-block .ensures .1 _ (t .form) (seen h)) (c .before .before .before .before .before .before .before .before .before .before .before .if2 .left),
-      tested (c .before .before .before .before .before .before .before .before .before .is-declared .ensures _ (seen h)) (c .before .before .before .before .before .before .before .before .if3 .left),
+      tested (c .before .before .before .before .before .before .before .before .before .before .before .before .before .before .before .no-branch .ensures .1 _ (t .form) (seen h)) (c .before .before .before .before .before .before .before .before .before .before .before .before .before .before .if1 .left), tested (c .before .before .before .before .before .before .before .before .before .before .before .before .no-block .ensures .1 _ (t .form) (seen h)) (c .before .before .before .before .before .before .before .before .before .before .before .if2 .left), tested (c .before .before .before .before .before .before .before .before .before .is-declared .ensures _ (seen h)) (c .before .before .before .before .before .before .if3 .left),
       lt-leb (limits .dests) (length (t .graph .dests (c .before .before .before .before .before .before .before .before .before .before .before .before .before .before .before .before .before .before .args .x))) (rw (← count) (c .before .before .before .before .before .if4 .left)),
     )
     (accepted (c .accept .ensures) count (changed h refl refl (c .before .before .before .declare-dest .ensures _ (record { seen = seen h; room = rw (← count) (c .before .before .before .before .before .if4 .left) })) (cells h)))
@@ -63,6 +58,6 @@ returns-5 c = λ fl t h.
 pub new-dest-spec : {M : Type 1} → statement M
 new-dest-spec = tie.close (tie.spec
     no-branch-requires (λ c κs. search needs) (λ c. search needs) returns no-block-requires (λ c κs. search needs)
-    (λ c. search needs) returns-2 is-declared-requires (λ c κs. search needs) (λ c. search needs) returns-3
-    dest-count-requires (λ c κs. search needs) (λ c. search needs) returns-4 declare-dest-requires
-    (λ c κs. search needs) (λ c. search needs) returns-5)
+    (λ c. search needs) returns-2 is-declared-requires dest-count-requires (λ c κs. search needs) (λ c. search needs)
+    returns-3 (λ c κs. search needs) (λ c. search needs) returns-4 declare-dest-requires (λ c κs. search needs)
+    (λ c. search needs) returns-5)

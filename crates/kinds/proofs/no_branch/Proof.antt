@@ -3,7 +3,6 @@
 use borrow.Author.Needs.{needs}
 use mathlib.Core.Path.{refl, ap}
 use mathlib.Core.Bool.{not}
-use Rattle.definition.specs.Session.{no-block}
 use Rattle.meaning.proofs.Maps.{false-true}
 use Rattle.kinds.proofs.Answered.{tested}
 use Rattle.kinds.proofs.no_branch.Statement.{statement}
