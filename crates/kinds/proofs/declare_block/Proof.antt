@@ -1,5 +1,5 @@
 -- `declare_block` meets its contract: the three comparisons are the definition's, so the next block is declared, and placed where it is block 0.
--- Assumes nothing.
+-- e1 is the place past the first check, and so on. Assumes nothing.
 use borrow.Author.Needs.{needs}
 use borrow.Author.Tests.{lt-ltb, le-ltb, le-leb, lt-leb, eq-eqb, ne-eqb}
 use native.Mathlib.Omega.{arith}
@@ -22,28 +22,45 @@ returns-2 c = λ t h.
     (refused h (c .refuse2 .ensures))
 
 returns-3 : tie.Need-returns-3
-returns-3 c = λ t h.
-    let count = c .before .before .before .block-count .ensures .1 _ (seen h) in
-    rw (lt-leb (limits .blocks) _ (c .before .before .before .before .before .if1 .left), le-ltb (t .graph .blocks) (c .before .before .before .before .before .before .before .before .args .x) (rw (← count) (c .before .before .if2 .left)), lt-ltb (c .before .before .before .before .before .before .before .before .args .x) (t .graph .blocks) (rw (← count) (c .before .if3 .taken)))
+returns-3 c =
+    let e2 = c .before .before in
+    let e1 = e2 .before .before .before in
+    let a = e1 .before .before .before .args in
+    λ t h.
+    let count = e2 .before .block-count .ensures .1 _ (seen h) in
+    rw (lt-leb (limits .blocks) _ (e1 .if1 .left), le-ltb (t .graph .blocks) (a .x) (rw (← count) (e2 .if2 .left)), lt-ltb (a .x) (t .graph .blocks) (rw (← count) (c .before .if3 .taken)))
     (accepted (c .accept .ensures) refl (h .leaves))
 
 declare-block-requires : tie.Need-declare-block-requires
 declare-block-requires c κs = (seen-some (c .before .before .before .before .before .before .before .before .pre), c .before .before .before .before .before .if1 .left)
 
 returns-4 : tie.Need-returns-4
-returns-4 c = λ t h.
-    let count = c .before .before .before .before .before .before .before .before .block-count .ensures .1 _ (seen h) in
-    rw (lt-leb (limits .blocks) _ (c .before .before .before .before .before .before .before .before .before .before .if1 .left), le-ltb (t .graph .blocks) (c .before .before .before .before .before .before .before .before .before .before .before .before .before .args .x) (rw (← count) (c .before .before .before .before .before .before .before .if2 .left)), le-ltb (c .before .before .before .before .before .before .before .before .before .before .before .before .before .args .x) (t .graph .blocks) (rw (← count) (c .before .before .before .before .before .before .if3 .left)), ne-eqb (c .before .before .before .before .before .before .before .before .before .before .before .before .before .args .x) 0 (c .before .if4 .taken))
+returns-4 c =
+    let e3 = c .before .before .before .before .before .before in
+    let e2 = e3 .before in
+    let e1 = e2 .before .before .before in
+    let a = e1 .before .before .before .args in
+    λ t h.
+    let count = e2 .before .block-count .ensures .1 _ (seen h) in
+    rw (lt-leb (limits .blocks) _ (e1 .if1 .left), le-ltb (t .graph .blocks) (a .x) (rw (← count) (e2 .if2 .left)), le-ltb (a .x) (t .graph .blocks) (rw (← count) (e3 .if3 .left)), ne-eqb (a .x) 0 (c .before .if4 .taken))
     (accepted (c .accept2 .ensures) refl (changed h refl refl (c .before .before .before .before .declare-block .ensures _ (seen h)) (cells h)))
 
 place-block-requires : tie.Need-place-block-requires
-place-block-requires c κs = (_, can-place (c .before .before .before .before .before .before .before .before .before .before .before .before .before .pre .1) (c .before .before .before .before .before .before .before .before .before .before .before .before .before .pre .0 .form) refl (cells (c .before .before .before .before .before .before .before .before .before .before .before .before .before .pre .1)) 0 (omega arith))
+place-block-requires c κs =
+    let p = c .before .before .before .before .before .before .before .before .before .before .before .before .before .pre in
+    (_, can-place (p .1) (p .0 .form) refl (cells (p .1)) 0 (omega arith))
 
 returns-5 : tie.Need-returns-5
-returns-5 c = λ t h.
-    let count = c .before .before .before .before .before .before .before .before .before .before .before .before .block-count .ensures .1 _ (seen h) in
-    rw (lt-leb (limits .blocks) _ (c .before .before .before .before .before .before .before .before .before .before .before .before .before .before .if1 .left), le-ltb (t .graph .blocks) (c .before .before .before .before .before .before .before .before .before .before .before .before .before .before .before .before .before .args .x) (rw (← count) (c .before .before .before .before .before .before .before .before .before .before .before .if2 .left)), le-ltb (c .before .before .before .before .before .before .before .before .before .before .before .before .before .before .before .before .before .args .x) (t .graph .blocks) (rw (← count) (c .before .before .before .before .before .before .before .before .before .before .if3 .left)), eq-eqb (c .before .before .before .before .before .before .before .before .before .before .before .before .before .before .before .before .before .args .x) 0 (c .before .before .before .before .before .if4 .left))
-    (accepted (c .accept3 .ensures) refl (changed h refl refl (c .before .before .before .before .before .before .before .before .declare-block .ensures _ (seen h)) (c .before .before .before .place-block .ensures _ (can-place h (t .form) refl (cells h) 0 (omega arith)))))
+returns-5 c =
+    let e4 = c .before .before .before .before .before in
+    let e3 = e4 .before .before .before .before .before in
+    let e2 = e3 .before in
+    let e1 = e2 .before .before .before in
+    let a = e1 .before .before .before .args in
+    λ t h.
+    let count = e2 .before .block-count .ensures .1 _ (seen h) in
+    rw (lt-leb (limits .blocks) _ (e1 .if1 .left), le-ltb (t .graph .blocks) (a .x) (rw (← count) (e2 .if2 .left)), le-ltb (a .x) (t .graph .blocks) (rw (← count) (e3 .if3 .left)), eq-eqb (a .x) 0 (e4 .if4 .left))
+    (accepted (c .accept3 .ensures) refl (changed h refl refl (e4 .before .before .before .declare-block .ensures _ (seen h)) (c .before .before .before .place-block .ensures _ (can-place h (t .form) refl (cells h) 0 (omega arith)))))
 
 pub declare-block-spec : {M : Type 1} → statement M
 declare-block-spec = tie.close (tie.spec

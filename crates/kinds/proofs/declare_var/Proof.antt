@@ -1,5 +1,5 @@
 -- `declare_var` meets its contract: the comparisons are the definition's; a known variable is refused or accepted by its type, the next one is declared.
--- Assumes nothing.
+-- e1 is the place past the first check, and so on. Assumes nothing.
 use borrow.Author.Needs.{needs}
 use borrow.Author.Tests.{lt-ltb, le-ltb, le-leb, lt-leb, eq-eqb, ne-eqb}
 use native.Mathlib.Omega.{arith}
@@ -25,33 +25,57 @@ returns-2 c = λ fl t h.
     (refused h (c .refuse2 .ensures))
 
 returns-3 : tie.Need-returns-3
-returns-3 c = λ fl t h.
-    rw (lt-leb (limits .variables) _ (c .before .before .before .before .before .if1 .left), le-ltb (length (t .graph .types)) (c .before .before .before .before .before .before .before .args .x) (rw (← c .before .before .before .variable-count .ensures .1 _ (seen h)) (c .before .before .if2 .left)), le-leb type-count _ (c .before .if3 .taken))
+returns-3 c =
+    let e2 = c .before .before in
+    let e1 = e2 .before .before .before in
+    λ fl t h.
+    rw (lt-leb (limits .variables) _ (e1 .if1 .left), le-ltb (length (t .graph .types)) (e1 .before .before .args .x) (rw (← e2 .before .variable-count .ensures .1 _ (seen h)) (e2 .if2 .left)), le-leb type-count _ (c .before .if3 .taken))
     (refused h (c .refuse3 .ensures))
 
 variable-type-requires : tie.Need-variable-type-requires
 variable-type-requires c κs = (seen-some (c .before .before .before .before .before .before .before .before .pre .1), c .before .before .before .before .before .before .if1 .left)
 
 returns-4 : tie.Need-returns-4
-returns-4 c = λ fl t h.
-    let count = c .before .before .before .before .before .before .before .variable-count .ensures .1 _ (seen h) in
-    rw (lt-leb (limits .variables) _ (c .before .before .before .before .before .before .before .before .before .if1 .left), le-ltb (length (t .graph .types)) (c .before .before .before .before .before .before .before .before .before .before .before .args .x) (rw (← count) (c .before .before .before .before .before .before .if2 .left)), lt-leb type-count _ (c .before .before .before .before .before .if3 .left), lt-ltb (c .before .before .before .before .before .before .before .before .before .before .before .args .x) (length (t .graph .types)) (rw (← count) (c .before .before .before .before .if4 .taken)), ne-eqb (c .before .before .before .before .before .before .before .before .before .before .before .args .y) (type-of (t .graph) (c .before .before .before .before .before .before .before .before .before .before .before .args .x)) (λ q. c .before .if5 .taken (c .before .before .variable-type .ensures _ (seen h) ∙ sym q)))
+returns-4 c =
+    let e4 = c .before .before .before .before in
+    let e3 = e4 .before in
+    let e2 = e3 .before in
+    let e1 = e2 .before .before .before in
+    let a = e1 .before .before .args in
+    λ fl t h.
+    let count = e2 .before .variable-count .ensures .1 _ (seen h) in
+    rw (lt-leb (limits .variables) _ (e1 .if1 .left), le-ltb (length (t .graph .types)) (a .x) (rw (← count) (e2 .if2 .left)), lt-leb type-count _ (e3 .if3 .left), lt-ltb (a .x) (length (t .graph .types)) (rw (← count) (e4 .if4 .taken)), ne-eqb (a .y) (type-of (t .graph) (a .x)) (λ q. c .before .if5 .taken (c .before .before .variable-type .ensures _ (seen h) ∙ sym q)))
     (refused h (c .refuse4 .ensures))
 
 returns-5 : tie.Need-returns-5
-returns-5 c = λ fl t h.
-    let count = c .before .before .before .before .before .before .before .variable-count .ensures .1 _ (seen h) in
-    rw (lt-leb (limits .variables) _ (c .before .before .before .before .before .before .before .before .before .if1 .left), le-ltb (length (t .graph .types)) (c .before .before .before .before .before .before .before .before .before .before .before .args .x) (rw (← count) (c .before .before .before .before .before .before .if2 .left)), lt-leb type-count _ (c .before .before .before .before .before .if3 .left), lt-ltb (c .before .before .before .before .before .before .before .before .before .before .before .args .x) (length (t .graph .types)) (rw (← count) (c .before .before .before .before .if4 .taken)), eq-eqb (c .before .before .before .before .before .before .before .before .before .before .before .args .y) (type-of (t .graph) (c .before .before .before .before .before .before .before .before .before .before .before .args .x)) (tested (c .before .if5 .left) (c .before .before .variable-type .ensures _ (seen h))))
+returns-5 c =
+    let e4 = c .before .before .before .before in
+    let e3 = e4 .before in
+    let e2 = e3 .before in
+    let e1 = e2 .before .before .before in
+    let a = e1 .before .before .args in
+    λ fl t h.
+    let count = e2 .before .variable-count .ensures .1 _ (seen h) in
+    rw (lt-leb (limits .variables) _ (e1 .if1 .left), le-ltb (length (t .graph .types)) (a .x) (rw (← count) (e2 .if2 .left)), lt-leb type-count _ (e3 .if3 .left), lt-ltb (a .x) (length (t .graph .types)) (rw (← count) (e4 .if4 .taken)), eq-eqb (a .y) (type-of (t .graph) (a .x)) (tested (c .before .if5 .left) (c .before .before .variable-type .ensures _ (seen h))))
     (accepted (c .accept .ensures) refl (h .leaves))
 
 declare-variable-requires : tie.Need-declare-variable-requires
-declare-variable-requires c κs = (_, record { seen = seen (c .before .before .before .before .before .before .before .before .pre .1 .1); room = omega (arith, c .before .before .before .before .variable-count .ensures .1 _ (seen (c .before .before .before .before .before .before .before .before .pre .1 .1)), c .before .before .before .before .before .before .if1 .left, c .before .if4 .left) })
+declare-variable-requires c κs =
+    let e1 = c .before .before .before .before .before .before in
+    let p = e1 .before .before .pre in
+    (_, record { seen = seen (p .1 .1); room = omega (arith, c .before .before .before .before .variable-count .ensures .1 _ (seen (p .1 .1)), e1 .if1 .left, c .before .if4 .left) })
 
 returns-6 : tie.Need-returns-6
-returns-6 c = λ fl t h.
-    let count = c .before .before .before .before .before .before .before .before .variable-count .ensures .1 _ (seen h) in
-    rw (lt-leb (limits .variables) _ (c .before .before .before .before .before .before .before .before .before .before .if1 .left), le-ltb (length (t .graph .types)) (c .before .before .before .before .before .before .before .before .before .before .before .before .args .x) (rw (← count) (c .before .before .before .before .before .before .before .if2 .left)), lt-leb type-count _ (c .before .before .before .before .before .before .if3 .left), le-ltb (c .before .before .before .before .before .before .before .before .before .before .before .before .args .x) (length (t .graph .types)) (rw (← count) (c .before .before .before .before .before .if4 .left)))
-    (accepted (c .accept2 .ensures) refl (changed h refl refl (c .before .before .before .declare-variable .ensures _ (record { seen = seen h; room = omega (arith, count, c .before .before .before .before .before .before .before .before .before .before .if1 .left, c .before .before .before .before .before .if4 .left) })) (cells h)))
+returns-6 c =
+    let e4 = c .before .before .before .before .before in
+    let e3 = e4 .before in
+    let e2 = e3 .before in
+    let e1 = e2 .before .before .before in
+    let a = e1 .before .before .args in
+    λ fl t h.
+    let count = e2 .before .variable-count .ensures .1 _ (seen h) in
+    rw (lt-leb (limits .variables) _ (e1 .if1 .left), le-ltb (length (t .graph .types)) (a .x) (rw (← count) (e2 .if2 .left)), lt-leb type-count _ (e3 .if3 .left), le-ltb (a .x) (length (t .graph .types)) (rw (← count) (e4 .if4 .left)))
+    (accepted (c .accept2 .ensures) refl (changed h refl refl (c .before .before .before .declare-variable .ensures _ (record { seen = seen h; room = omega (arith, count, e1 .if1 .left, e4 .if4 .left) })) (cells h)))
 
 pub declare-var-spec : {M : Type 1} → statement M
 declare-var-spec = tie.close (tie.spec

@@ -1,5 +1,5 @@
 -- `define` meets its contract: the checks are the definition's, and the store is its `write`.
--- Assumes nothing.
+-- e1 is the place past the first check, and so on. Assumes nothing.
 use borrow.Author.Needs.{needs}
 use borrow.Author.Tests.{le-leb, lt-leb, eq-eqb, ne-eqb}
 use mathlib.Core.Path.{refl, sym, _∙_}
@@ -16,42 +16,72 @@ returns : tie.Need-returns
 returns c = λ t h. rw (tested (c .before .before .no-var .ensures .1 _ (t .form) (seen h)) (c .before .if1 .taken)) (refused h (c .refuse .ensures))
 
 returns-2 : tie.Need-returns-2
-returns-2 c = λ t h.
-    rw (tested (c .before .before .before .before .no-var .ensures .1 _ (t .form) (seen h)) (c .before .before .before .if1 .left), le-leb (t .form .next) (c .before .before .before .before .before .before .before .args .y) (rw (← h .leaves .form .next) (c .before .if2 .taken)))
+returns-2 c =
+    let e1 = c .before .before .before in
+    λ t h.
+    rw (tested (e1 .before .no-var .ensures .1 _ (t .form) (seen h)) (e1 .if1 .left), le-leb (t .form .next) (e1 .before .before .before .before .args .y) (rw (← h .leaves .form .next) (c .before .if2 .taken)))
     (refused h (c .refuse2 .ensures))
 
 no-block-requires : tie.Need-no-block-requires
 no-block-requires c κs = seen-some (c .before .before .before .before .before .before .pre)
 
 returns-3 : tie.Need-returns-3
-returns-3 c = λ t h.
-    rw (tested (c .before .before .before .before .before .before .no-var .ensures .1 _ (t .form) (seen h)) (c .before .before .before .before .before .if1 .left), lt-leb (t .form .next) (c .before .before .before .before .before .before .before .before .before .args .y) (rw (← h .leaves .form .next) (c .before .before .before .if2 .left)), tested (c .before .before .no-block .ensures .1 _ (t .form) (seen h)) (c .before .if3 .taken))
+returns-3 c =
+    let e2 = c .before .before .before in
+    let e1 = e2 .before .before in
+    λ t h.
+    rw (tested (e1 .before .no-var .ensures .1 _ (t .form) (seen h)) (e1 .if1 .left), lt-leb (t .form .next) (e1 .before .before .before .before .args .y) (rw (← h .leaves .form .next) (e2 .if2 .left)), tested (c .before .before .no-block .ensures .1 _ (t .form) (seen h)) (c .before .if3 .taken))
     (refused h (c .refuse3 .ensures))
 
 value-type-requires : tie.Need-value-type-requires
-value-type-requires c κs = (_, has-value (c .before .before .before .before .before .before .before .before .before .pre .1) _ (rw (← c .before .before .before .before .before .before .before .before .before .pre .1 .leaves .form .next) (c .before .before .before .if2 .left)))
+value-type-requires c κs =
+    let e2 = c .before .before .before in
+    let p = e2 .before .before .before .before .before .before .pre in
+    (_, has-value (p .1) _ (rw (← p .1 .leaves .form .next) (e2 .if2 .left)))
 
 variable-type-requires : tie.Need-variable-type-requires
-variable-type-requires c κs = (seen-some (c .before .before .before .before .before .before .before .before .before .before .pre), c .before .before .before .before .before .before .before .no-var .ensures .0 (c .before .before .before .before .before .before .if1 .left))
+variable-type-requires c κs =
+    let e1 = c .before .before .before .before .before .before in
+    (seen-some (e1 .before .before .before .before .pre), e1 .before .no-var .ensures .0 (e1 .if1 .left))
 
 returns-4 : tie.Need-returns-4
-returns-4 c = λ t h.
+returns-4 c =
+    let e3 = c .before .before .before .before .before in
+    let e2 = e3 .before .before in
+    let e1 = e2 .before .before in
+    let a = e1 .before .before .before .before .args in
+    λ t h.
     rw (
-      tested (c .before .before .before .before .before .before .before .before .before .before .no-var .ensures .1 _ (t .form) (seen h)) (c .before .before .before .before .before .before .before .before .before .if1 .left), lt-leb (t .form .next) (c .before .before .before .before .before .before .before .before .before .before .before .before .before .args .y) (rw (← h .leaves .form .next) (c .before .before .before .before .before .before .before .if2 .left)), tested (c .before .before .before .before .before .before .no-block .ensures .1 _ (t .form) (seen h)) (c .before .before .before .before .before .if3 .left),
-      ne-eqb (t .form .info (c .before .before .before .before .before .before .before .before .before .before .before .before .before .args .y) .type) (type-of (t .graph) (c .before .before .before .before .before .before .before .before .before .before .before .before .before .args .x)) (λ q. c .before .if4 .taken (c .before .before .before .value-type .ensures _ (has-value h _ (rw (← h .leaves .form .next) (c .before .before .before .before .before .before .before .if2 .left))) ∙ q ∙ sym (c .before .before .variable-type .ensures _ (seen h)))),
+      tested (e1 .before .no-var .ensures .1 _ (t .form) (seen h)) (e1 .if1 .left),
+      lt-leb (t .form .next) (a .y) (rw (← h .leaves .form .next) (e2 .if2 .left)),
+      tested (e3 .before .no-block .ensures .1 _ (t .form) (seen h)) (e3 .if3 .left),
+      ne-eqb (t .form .info (a .y) .type) (type-of (t .graph) (a .x)) (λ q. c .before .if4 .taken (c .before .before .before .value-type .ensures _ (has-value h _ (rw (← h .leaves .form .next) (e2 .if2 .left))) ∙ q ∙ sym (c .before .before .variable-type .ensures _ (seen h)))),
     )
     (refused h (c .refuse4 .ensures))
 
 record-def-requires : tie.Need-record-def-requires
-record-def-requires c κs = ((_, has-def (c .before .before .before .before .before .before .before .before .before .before .before .before .before .pre .1) _ _ (c .before .before .before .before .before .before .before .before .before .before .no-var .ensures .0 (c .before .before .before .before .before .before .before .before .before .if1 .left)) (c .before .before .before .before .before .before .no-block .ensures .0 (c .before .before .before .before .before .if3 .left))), value-small (c .before .before .before .before .before .before .before .before .before .before .before .before .before .pre .1) _ (rw (← c .before .before .before .before .before .before .before .before .before .before .before .before .before .pre .1 .leaves .form .next) (c .before .before .before .before .before .before .before .if2 .left)))
+record-def-requires c κs =
+    let e3 = c .before .before .before .before .before in
+    let e2 = e3 .before .before in
+    let e1 = e2 .before .before in
+    let p = e1 .before .before .before .before .pre in
+    ((_, has-def (p .1) _ _ (e1 .before .no-var .ensures .0 (e1 .if1 .left)) (e3 .before .no-block .ensures .0 (e3 .if3 .left))), value-small (p .1) _ (rw (← p .1 .leaves .form .next) (e2 .if2 .left)))
 
 returns-5 : tie.Need-returns-5
-returns-5 c = λ t h.
+returns-5 c =
+    let e4 = c .before .before .before .before .before in
+    let e3 = e4 .before .before .before .before in
+    let e2 = e3 .before .before in
+    let e1 = e2 .before .before in
+    let a = e1 .before .before .before .before .args in
+    λ t h.
     rw (
-      tested (c .before .before .before .before .before .before .before .before .before .before .before .before .before .before .no-var .ensures .1 _ (t .form) (seen h)) (c .before .before .before .before .before .before .before .before .before .before .before .before .before .if1 .left), lt-leb (t .form .next) (c .before .before .before .before .before .before .before .before .before .before .before .before .before .before .before .before .before .args .y) (rw (← h .leaves .form .next) (c .before .before .before .before .before .before .before .before .before .before .before .if2 .left)), tested (c .before .before .before .before .before .before .before .before .before .before .no-block .ensures .1 _ (t .form) (seen h)) (c .before .before .before .before .before .before .before .before .before .if3 .left),
-      eq-eqb (t .form .info (c .before .before .before .before .before .before .before .before .before .before .before .before .before .before .before .before .before .args .y) .type) (type-of (t .graph) (c .before .before .before .before .before .before .before .before .before .before .before .before .before .before .before .before .before .args .x)) (tested (c .before .before .before .before .before .before .before .value-type .ensures _ (has-value h _ (rw (← h .leaves .form .next) (c .before .before .before .before .before .before .before .before .before .before .before .if2 .left)))) (c .before .before .before .before .before .if4 .left) ∙ c .before .before .before .before .before .before .variable-type .ensures _ (seen h)),
+      tested (e1 .before .no-var .ensures .1 _ (t .form) (seen h)) (e1 .if1 .left),
+      lt-leb (t .form .next) (a .y) (rw (← h .leaves .form .next) (e2 .if2 .left)),
+      tested (e3 .before .no-block .ensures .1 _ (t .form) (seen h)) (e3 .if3 .left),
+      eq-eqb (t .form .info (a .y) .type) (type-of (t .graph) (a .x)) (tested (e4 .before .before .value-type .ensures _ (has-value h _ (rw (← h .leaves .form .next) (e2 .if2 .left)))) (e4 .if4 .left) ∙ e4 .before .variable-type .ensures _ (seen h)),
     )
-    (accepted (c .accept .ensures) refl (changed h refl refl (seen h .cells) (c .before .before .before .record-def .ensures .own _ (has-def h _ _ (c .before .before .before .before .before .before .before .before .before .before .before .before .before .before .no-var .ensures .0 (c .before .before .before .before .before .before .before .before .before .before .before .before .before .if1 .left)) (c .before .before .before .before .before .before .before .before .before .before .no-block .ensures .0 (c .before .before .before .before .before .before .before .before .before .if3 .left))))))
+    (accepted (c .accept .ensures) refl (changed h refl refl (seen h .cells) (c .before .before .before .record-def .ensures .own _ (has-def h _ _ (e1 .before .no-var .ensures .0 (e1 .if1 .left)) (e3 .before .no-block .ensures .0 (e3 .if3 .left))))))
 
 pub define-spec : {M : Type 1} → statement M
 define-spec = tie.close (tie.spec

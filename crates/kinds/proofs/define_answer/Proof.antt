@@ -1,15 +1,20 @@
 -- `define_answer` meets its contract: without an earlier answer it is refused, else it is `define` with that answer.
--- Assumes nothing.
+-- e1 is the place past the first check, and so on. Assumes nothing.
 use borrow.Author.Needs.{needs}
 use Rattle.kinds.proofs.Answered.{refused, no-answer, an-answer}
 use Rattle.kinds.proofs.define_answer.Statement.{statement}
 use Rattle.kinds.proofs.define_answer.Tie as tie
 
 returns : tie.Need-returns
-returns c = λ o e t h. rw (no-answer (t .graph) (t .form) (c .before .before .before .before .args .x) (c .before .before .before .before .args .z) _ (c .before .if1 .taken) o e) (refused h (c .refuse .ensures))
+returns c =
+    let a = c .before .before .before .before .args in
+    λ o e t h. rw (no-answer (t .graph) (t .form) (a .x) (a .z) _ (c .before .if1 .taken) o e) (refused h (c .refuse .ensures))
 
 returns-2 : tie.Need-returns-2
-returns-2 c = λ o e t h. rw (an-answer (t .graph) (t .form) (c .before .before .before .before .before .before .before .args .x) (c .before .before .before .before .before .before .before .args .z) _ (c .before .before .before .before .if1 .left) o e) (c .before .before .define .ensures t h)
+returns-2 c =
+    let e1 = c .before .before .before .before in
+    let a = e1 .before .before .before .args in
+    λ o e t h. rw (an-answer (t .graph) (t .form) (a .x) (a .z) _ (e1 .if1 .left) o e) (c .before .before .define .ensures t h)
 
 pub define-answer-spec : {M : Type 1} → statement M
 define-answer-spec = tie.close (tie.spec

@@ -1,5 +1,5 @@
 -- `new_branch` meets its contract: both checks are the definition's; then the mark is set and the block placed.
--- Assumes nothing.
+-- e1 is the place past the first check, and so on. Assumes nothing.
 use borrow.Author.Needs.{needs}
 use mathlib.Core.Path.{refl}
 use Rattle.kinds.proofs.Asked.{seen, seen-some, cells, can-place}
@@ -22,16 +22,24 @@ returns-2 c = λ t h.
     (refused h (c .refuse2 .ensures))
 
 declare-branch-requires : tie.Need-declare-branch-requires
-declare-branch-requires c κs = (seen-some (c .before .before .before .before .before .before .before .before .before .pre), c .before .before .before .before .before .no-block .ensures .0 (c .before .before .before .before .if1 .left))
+declare-branch-requires c κs =
+    let e1 = c .before .before .before .before in
+    (seen-some (e1 .before .before .before .before .before .pre), e1 .before .no-block .ensures .0 (e1 .if1 .left))
 
 place-block-requires : tie.Need-place-block-requires
-place-block-requires c κs = (_, can-place (c .before .before .before .before .before .before .before .before .before .before .before .before .before .pre .1) (c .before .before .before .before .before .before .before .before .before .before .before .before .before .pre .0 .form) refl (cells (c .before .before .before .before .before .before .before .before .before .before .before .before .before .pre .1)) _ (c .before .before .before .before .before .before .before .before .before .no-block .ensures .0 (c .before .before .before .before .before .before .before .before .if1 .left)))
+place-block-requires c κs =
+    let e1 = c .before .before .before .before .before .before .before .before in
+    let p = e1 .before .before .before .before .before .pre in
+    (_, can-place (p .1) (p .0 .form) refl (cells (p .1)) _ (e1 .before .no-block .ensures .0 (e1 .if1 .left)))
 
 returns-3 : tie.Need-returns-3
-returns-3 c = λ t h.
-    rw (tested (c .before .before .before .before .before .before .before .before .before .before .before .before .before .no-block .ensures .1 _ (t .form) (seen h)) (c .before .before .before .before .before .before .before .before .before .before .before .before .if1 .left), tested (c .before .before .before .before .before .before .before .before .before .before .has-branch .ensures _ (seen h)) (c .before .before .before .before .before .before .before .before .before .if2 .left))
+returns-3 c =
+    let e2 = c .before .before .before .before .before .before .before .before .before in
+    let e1 = e2 .before .before .before in
+    λ t h.
+    rw (tested (e1 .before .no-block .ensures .1 _ (t .form) (seen h)) (e1 .if1 .left), tested (e2 .before .has-branch .ensures _ (seen h)) (e2 .if2 .left))
     (accepted (c .accept .ensures) refl (changed h refl refl (c .before .before .before .before .before .before .before .declare-branch .ensures _ (seen h))
-    (c .before .before .before .place-block .ensures _ (can-place h (t .form) refl (cells h) _ (c .before .before .before .before .before .before .before .before .before .before .before .before .before .no-block .ensures .0 (c .before .before .before .before .before .before .before .before .before .before .before .before .if1 .left))))))
+    (c .before .before .before .place-block .ensures _ (can-place h (t .form) refl (cells h) _ (e1 .before .no-block .ensures .0 (e1 .if1 .left))))))
 
 pub new-branch-spec : {M : Type 1} → statement M
 new-branch-spec = tie.close (tie.spec
