@@ -1,0 +1,3 @@
+pub mod Asked
+pub mod Answered
+pub mod Session
