@@ -53,8 +53,8 @@ module _ {gl fl wl : List ℕ} {c : Counts} {v ty b : ℕ} {g : Graph} {s : Form
       block-low = le-trans (subst (λ (k : ℕ). k < g .blocks) (sym (S .block)) (walks .low)) (H .seen .bounds .few)
 
       -- a definition was met
-      pub finds-met : (stop .value ≡ 0 → ⊥) → {wl₁ : List ℕ} {r : Found} → r .from .0 ≡ blk → r .val .0 ≡ stop .value - 1
-          → (r .counts ≡ one-result c) × ((ts : List Task) → (rs : List ℕ) → Can-answer wl c ts rs → Stacks wl₁ (one-result c) ts ((stop .value - 1) ∷ rs))
+      pub finds-met : (stop .value ≡ 0 → ⊥) → {wl₁ : List ℕ} {r : Found} → r .1 .0 ≡ blk → r .0 .0 ≡ stop .value - 1
+          → (r .2 ≡ one-result c) × ((ts : List Task) → (rs : List ℕ) → Can-answer wl c ts rs → Stacks wl₁ (one-result c) ts ((stop .value - 1) ∷ rs))
           → Finds fl wl₁ (c .call) r v b g s ts rs
       finds-met d {wl₁} {r} ef ev P =
           let m : whole-walk g v b s .met ≡ some (stop .value - 1) = some-of (whole-walk g v b s .met) (stop .value) (S .value) d in
@@ -62,7 +62,7 @@ module _ {gl fl wl : List ℕ} {c : Counts} {v ty b : ℕ} {g : Graph} {s : Form
             from = ef ∙ S .block;
             val = ev ∙ ap (found s) (sym m);
             call = ap (λ (k : Counts). k .call) (P .0);
-            shown = subst (λ (o : Option ℕ). Shown fl wl₁ (r .counts) (find g v ts rs s [] (whole-walk g v b s .end) o)) (sym m)
+            shown = subst (λ (o : Option ℕ). Shown fl wl₁ (r .2) (find g v ts rs s [] (whole-walk g v b s .end) o)) (sym m)
                 (subst (λ (k : Counts). Shown fl wl₁ k (conf ts ((stop .value - 1) ∷ rs) s)) (sym (P .0))
                 (record { form = record { cells = H .shows .cells; next = H .shows .next }; work = P .1 ts rs (answer-can H) }));
           }
@@ -113,31 +113,31 @@ module _ {gl fl wl : List ℕ} {c : Counts} {v ty b : ℕ} {g : Graph} {s : Form
             pub wait-can : Can-wait fl₂ blk (new-param g v blk s)
             wait-can = record { cells = made; known = block-low; row = open-there .waits }
 
-            finds-none : {fl₃ wl₁ : List ℕ} {r : Found} {q : Bool} → ((g : Graph) → Seen gl g → q ≡ g .sealed blk) → r .from .0 ≡ blk → r .val .0 ≡ c .values → r .counts .call ≡ d .call
-                → Shown fl₃ wl₁ (r .counts) (open-param g v blk (s .next) [] ts rs (new-param g v blk s) q) → Finds fl₃ wl₁ (c .call) r v b g s ts rs
+            finds-none : {fl₃ wl₁ : List ℕ} {r : Found} {q : Bool} → ((g : Graph) → Seen gl g → q ≡ g .sealed blk) → r .1 .0 ≡ blk → r .0 .0 ≡ c .values → r .2 .call ≡ d .call
+                → Shown fl₃ wl₁ (r .2) (open-param g v blk (s .next) [] ts rs (new-param g v blk s) q) → Finds fl₃ wl₁ (c .call) r v b g s ts rs
             finds-none {fl₃} {wl₁} {r} shut ef ev ec sh = record {
               from = ef ∙ S .block;
               val = ev ∙ H .shows .next ∙ ap (found s) (sym none-met);
               call = ec ∙ ap (λ (k : Counts). k .call) (A .0);
-              shown = subst (λ (o : Option ℕ). Shown fl₃ wl₁ (r .counts) (find g v ts rs s [] (whole-walk g v b s .end) o)) (sym none-met)
-                  (subst (λ (k : ℕ). Shown fl₃ wl₁ (r .counts) (open-param g v k (s .next) [] ts rs (new-param g v k s) (g .sealed k))) (S .block)
-                  (subst (λ (y : Bool). Shown fl₃ wl₁ (r .counts) (open-param g v blk (s .next) [] ts rs (new-param g v blk s) y)) (shut g (H .seen)) sh));
+              shown = subst (λ (o : Option ℕ). Shown fl₃ wl₁ (r .2) (find g v ts rs s [] (whole-walk g v b s .end) o)) (sym none-met)
+                  (subst (λ (k : ℕ). Shown fl₃ wl₁ (r .2) (open-param g v k (s .next) [] ts rs (new-param g v k s) (g .sealed k))) (S .block)
+                  (subst (λ (y : Bool). Shown fl₃ wl₁ (r .2) (open-param g v blk (s .next) [] ts rs (new-param g v blk s) y)) (shut g (H .seen)) sh));
             }
 
             module _ {q : Bool} (shut : (g : Graph) → Seen gl g → q ≡ g .sealed blk) where
-              pub finds-sealed : q ≡ true → {wl₁ : List ℕ} {r : Found} → r .from .0 ≡ blk → r .val .0 ≡ c .values
-                  → (r .counts .values ≡ d .values) × (r .counts .call ≡ d .call)
-                  × ((g : Graph) → (ts : List Task) → (rs : List ℕ) → Can-begin gl wl d (c .values) blk g ts rs → Stacks wl₁ (r .counts) (schedule g (c .values) blk ts) rs)
+              pub finds-sealed : q ≡ true → {wl₁ : List ℕ} {r : Found} → r .1 .0 ≡ blk → r .0 .0 ≡ c .values
+                  → (r .2 .values ≡ d .values) × (r .2 .call ≡ d .call)
+                  × ((g : Graph) → (ts : List Task) → (rs : List ℕ) → Can-begin gl wl d (c .values) blk g ts rs → Stacks wl₁ (r .2) (schedule g (c .values) blk ts) rs)
                   → Finds fl₂ wl₁ (c .call) r v b g s ts rs
               finds-sealed e {wl₁} {r} ef ev B = finds-none shut ef ev (B .1)
                   (rw e (record {
                     form = record { cells = made; next = B .0 ∙ counted };
-                    work = subst (λ (x : ℕ). Stacks wl₁ (r .counts) (schedule g x blk ts) rs) (H .shows .next) (B .2 g ts rs begin-can);
+                    work = subst (λ (x : ℕ). Stacks wl₁ (r .2) (schedule g x blk ts) rs) (H .shows .next) (B .2 g ts rs begin-can);
                   }))
 
-              pub finds-open : q ≡ false → {fl₃ wl₁ : List ℕ} {r : Found} → r .from .0 ≡ blk → r .val .0 ≡ c .values
+              pub finds-open : q ≡ false → {fl₃ wl₁ : List ℕ} {r : Found} → r .1 .0 ≡ blk → r .0 .0 ≡ c .values
                   → ((s : Form) → Can-wait fl₂ blk s → (x : ℕ) → Cells fl₃ (wait v blk x s))
-                  → (r .counts ≡ one-result d) × ((ts : List Task) → (rs : List ℕ) → Can-answer wl d ts rs → Stacks wl₁ (one-result d) ts (c .values ∷ rs))
+                  → (r .2 ≡ one-result d) × ((ts : List Task) → (rs : List ℕ) → Can-answer wl d ts rs → Stacks wl₁ (one-result d) ts (c .values ∷ rs))
                   → Finds fl₃ wl₁ (c .call) r v b g s ts rs
               finds-open e {fl₃} {wl₁} {r} ef ev Q P = finds-none shut ef ev (ap (λ (k : Counts). k .call) (P .0))
                   (rw e (subst (λ (k : Counts). Shown fl₃ wl₁ k (conf ts (s .next ∷ rs) (wait v blk (s .next) (new-param g v blk s)))) (sym (P .0))

@@ -129,7 +129,7 @@ module _ {gl fl wl : List ℕ} {c : Counts} {v ty b : ℕ} {g : Graph} {s : Form
       room = walk-room g (h .seen .sound) v s b (h .known) lacks-here (suc (g .blocks))
 
       module _ {fl₁ wl₁ : List ℕ} {f : Found} (F : Finds fl₁ wl₁ (c .call) f v b g s ts rs) where
-        pub copy-can : Can-copy gl fl₁ v b (f .from .0) g (find g v ts rs s [] (whole-walk g v b s .end) (whole-walk g v b s .met) .form) (before (whole-walk g v b s .end) (whole-walk g v b s .passed))
+        pub copy-can : Can-copy gl fl₁ v b (f .1 .0) g (find g v ts rs s [] (whole-walk g v b s .end) (whole-walk g v b s .met) .form) (before (whole-walk g v b s .end) (whole-walk g v b s .passed))
         copy-can = record {
           seen = h .seen;
           cells = F .shown .form .cells;
@@ -139,7 +139,7 @@ module _ {gl fl wl : List ℕ} {c : Counts} {v ty b : ℕ} {g : Graph} {s : Form
           bare = λ d i. find-own g v ts rs s (W .end) (W .met) v d ∙ or-none (s .own v d) (s .entry v d) (room .1 d (before-in (W .end) (W .passed) d i) .1) .0;
         }
 
-        pub val-small : f .val .0 < value-room limits
+        pub val-small : f .0 .0 < value-room limits
         val-small = subst (λ (k : ℕ). k < value-room limits) (sym (F .val)) (by (W .met) (U .met) (U .unmet))
           where
             by : (m : Option ℕ) → ((x : ℕ) → m ≡ some x → def s v (W .end) ≡ some x) → (m ≡ none → def s v (W .end) ≡ none) → found s m < value-room limits
@@ -147,15 +147,15 @@ module _ {gl fl wl : List ℕ} {c : Counts} {v ty b : ℕ} {g : Graph} {s : Form
             by none y n = h .ready .opens (W .end) (U .low) (n refl) .next
 
         pub visits-found : {fl₂ : List ℕ}
-            → ((g : Graph) → (s : Form) → (bs : List ℕ) → Can-copy gl fl₁ v b (f .from .0) g s bs → Cells fl₂ (mark v (f .val .0) bs s))
-            → Visits fl₂ wl₁ (c .call) (f .counts) v b g s ts rs
+            → ((g : Graph) → (s : Form) → (bs : List ℕ) → Can-copy gl fl₁ v b (f .1 .0) g s bs → Cells fl₂ (mark v (f .0 .0) bs s))
+            → Visits fl₂ wl₁ (c .call) (f .2) v b g s ts rs
         visits-found {fl₂} C =
             let whole = find-marked g v ts rs s (W .end) (W .passed) (W .met)
             (λ x e. before-all (W .end) (W .passed) (λ i. some-none (U .met x e) (room .1 (W .end) i .1))) K refl in
             record {
               call = F .call;
-              shown = subst (λ (o : Option ℕ). Shown fl₂ wl₁ (f .counts) (visit g v b ts rs s o)) (sym lacks-here)
-                  (subst (λ (k : Conf). Shown fl₂ wl₁ (f .counts) k) (sym whole)
+              shown = subst (λ (o : Option ℕ). Shown fl₂ wl₁ (f .2) (visit g v b ts rs s o)) (sym lacks-here)
+                  (subst (λ (k : Conf). Shown fl₂ wl₁ (f .2) k) (sym whole)
                   (record {
                     form = record { cells = subst (λ (x : ℕ). Cells fl₂ (mark v x way (K .form))) (F .val) (C g (K .form) way copy-can); next = F .shown .form .next ∙ sym (ap (λ (k : Form). k .next) (mark-is v (found s (W .met)) way (K .form))) };
                     work = F .shown .work;

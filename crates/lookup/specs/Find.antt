@@ -68,10 +68,10 @@ found s none = s .next
 
 -- what is found in or for b and where it comes from, and the cells before it is copied back to the blocks passed: none of them is marked
 pub record Finds (fl wl : List ℕ) (n : ℕ) (r : Found) (v b : ℕ) (g : Graph) (s : Form) (ts : List Task) (rs : List ℕ) : Type 0 where
-  pub from : r .from .0 ≡ whole-walk g v b s .end
-  pub val : r .val .0 ≡ found s (whole-walk g v b s .met)
-  pub call : r .counts .call ≡ n
-  pub shown : Shown fl wl (r .counts) (find g v ts rs s [] (whole-walk g v b s .end) (whole-walk g v b s .met))
+  pub from : r .1 .0 ≡ whole-walk g v b s .end
+  pub val : r .0 .0 ≡ found s (whole-walk g v b s .met)
+  pub call : r .2 .call ≡ n
+  pub shown : Shown fl wl (r .2) (find g v ts rs s [] (whole-walk g v b s .end) (whole-walk g v b s .met))
 
 -- the cells after v was visited in b, and the counts r; the call's number n is unchanged
 pub record Visits (fl wl : List ℕ) (n : ℕ) (r : Counts) (v b : ℕ) (g : Graph) (s : Form) (ts : List Task) (rs : List ℕ) : Type 0 where

@@ -23,11 +23,7 @@ pub struct Stop {
 }
 
 // The definition found, the block that it comes from, and the counts after.
-pub struct Found {
-    pub val: Value,
-    pub from: Block,
-    pub counts: Counts,
-}
+pub struct Found(pub Value, pub Block, pub Counts);
 
 // Puts the value of the variable in the block on the stack of results, or schedules what finds it.
 pub fn use_var_nonlocal(
@@ -49,9 +45,9 @@ pub fn use_var_nonlocal(
         return work::push_result(work, c, Value(x - 1));
     }
     let f = find_var(graph, form, work, c, var, ty, block);
-    let val = f.val;
-    let from = f.from;
-    let d = f.counts;
+    let val = f.0;
+    let from = f.1;
+    let d = f.2;
     copy_back(graph, form, var, block, from, val);
     d
 }
@@ -128,30 +124,18 @@ fn find_var(
     if stop.value != 0 {
         let met = Value(stop.value - 1);
         let d = work::push_result(work, c, met);
-        return Found {
-            val: met,
-            from: from,
-            counts: d,
-        };
+        return Found(met, from, d);
     }
     let val = Value(c.values);
     let d = form::append_block_param(form, c, from, ty);
     form::record_def(form, var, from, val);
     if graph::is_sealed(graph, from) {
         let e = begin_predecessors_lookup(graph, work, d, val, from);
-        return Found {
-            val: val,
-            from: from,
-            counts: e,
-        };
+        return Found(val, from, e);
     }
     form::push_pending(form, var, from);
     let e = work::push_result(work, d, val);
-    Found {
-        val: val,
-        from: from,
-        counts: e,
-    }
+    Found(val, from, e)
 }
 
 // Schedules the lookup in each predecessor, and what settles the sentinel after them. The call on top runs first, so the last predecessor is
