@@ -1,25 +1,23 @@
--- Values in the cells: one made, one counted, one that becomes another name, one resolved. Each is a store or a few into columns with a cell for each value.
+-- Values in the cells: one made, one counted, one that becomes another name. Each is a store or a few into columns with a cell for each value.
 -- Assumes nothing.
-use Prim.Native.Nat.{ℕ, suc, _+_, _-_, _<_}
+use Prim.Native.Nat.{ℕ, suc, _+_, _<_}
 use mathlib.Core.Path.{_≡_, refl, ap}
 use mathlib.Core.List.{List}
 use native.Mathlib.Omega.{arith}
 use native.Mathlib.Numerals.{add-one}
-use lib.ListN.{getD, set, take, drop}
+use lib.ListN.{getD, set}
 use Rattle.definition.specs.Base.{put}
 use Rattle.definition.specs.Form.{Form, Info, Sort, with-makes, with-target}
-use Rattle.definition.specs.Read.{resolve, make}
-use Rattle.definition.specs.Resolve.{Resolved, ends, targets}
+use Rattle.definition.specs.Read.{make}
 use Rattle.definition.specs.Tables.{sort-number}
 use Rattle.meaning.proofs.Maps.{put-same, put-other}
-use Rattle.alias.proofs.Walks.{resolved-unique}
 use Rattle.layout.specs.declared.Counts.{Counts}
 use Rattle.layout.specs.Cells.{Table, base, upto}
 use Rattle.layout.specs.Counts.{more}
 use Rattle.layout.specs.Layout.{form-sizes, form-tables, Shows}
 use Rattle.layout.proofs.Cells.{store}
-use Rattle.layout.proofs.Columns.{column-at, column-list, column-more, column-put}
-use Rattle.form.specs.Can.{Cells, Can-make, Can-count, Has-value, Can-resolve}
+use Rattle.layout.proofs.Columns.{column-at, column-more, column-put}
+use Rattle.form.specs.Can.{Cells, Can-make, Can-count, Has-value}
 
 module _ (l : List ℕ) (c : Counts) (s : Form) (p : Can-make l c s) (k : Sort) (ty b : ℕ) where
   abbrev n : ℕ
@@ -72,13 +70,3 @@ module _ (l : List ℕ) (s : Form) where
 
     pub alias-stored : (y : ℕ) → Cells (set l (base form-sizes 2 + x) y) (with-target s (put x y (s .target)))
     alias-stored y = column-put form-sizes l (form-tables s) 2 (p .cells) (s .next) (s .target) refl x y (omega arith) (p .there) (p .room)
-
--- ---- resolving
-
-pub resolve-is : (l : List ℕ) (c : Counts) (x : ℕ) (k y : ℕ) (s : Form) → Can-resolve l c x s
-    → Resolved (take (base form-sizes 2 + c .values - base form-sizes 2) (drop (base form-sizes 2) l)) x k y → y ≡ resolve s x
-resolve-is l c x k y s p r =
-    let all : take (base form-sizes 2 + c .values - base form-sizes 2) (drop (base form-sizes 2) l) ≡ targets s
-    = rw (p .shows .next) (column-list form-sizes l (form-tables s) 2 (p .shows .cells) (s .next) (s .target) refl (p .room) (omega (arith, p .shows .cells .long))) in
-    let own : Resolved (targets s) x k y = rw all at r in
-    resolved-unique own (ends (p .ends)) .1

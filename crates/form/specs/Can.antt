@@ -9,8 +9,7 @@ use lib.ListN.{length, getD}
 use Rattle.entity.specs.Limits.{limits, value-room, zero-room, param-room, pred-room}
 use Rattle.definition.specs.Base.{has}
 use Rattle.definition.specs.Form.{Form}
-use Rattle.definition.specs.Read.{resolve, write, mark-one, set-pending}
-use Rattle.definition.specs.Resolve.{Ends, targets}
+use Rattle.definition.specs.Read.{write, mark-one, set-pending}
 use Rattle.layout.specs.declared.Counts.{Counts}
 use Rattle.layout.specs.Cells.{Holds}
 use Rattle.layout.specs.Layout.{firsts, form-sizes, form-tables, Shows}
@@ -41,12 +40,6 @@ pub record Has-value (lent : List ℕ) (x : ℕ) (s : Form) : Type 0 where
   pub cells : Cells lent s
   pub there : x < s .next
   pub room : s .next ≤ value-room limits
-
--- following targets from x ends: crates/meaning shows that of every value, at every moment
-pub record Can-resolve (lent : List ℕ) (c : Counts) (x : ℕ) (s : Form) : Type 0 where
-  pub shows : Shows lent c s
-  pub room : s .next ≤ value-room limits
-  pub ends : Ends (targets s) x (resolve s x)
 
 -- ---- parameters and arguments
 

@@ -5,11 +5,11 @@ ghost use lib.ListN.{length};
 ghost use Rattle.entity.specs.Limits.{limits, value-room, param-room};
 ghost use Rattle.definition.specs.Base.{put, put₂, _∷ʳ_, has, without};
 ghost use Rattle.definition.specs.Form.{Form, Sort, param, def, with-makes, with-target, with-args};
-ghost use Rattle.definition.specs.Read.{make as made-of, resolve as resolved, set-params, wait, log-zero, place-block};
+ghost use Rattle.definition.specs.Read.{make as made-of, set-params, wait, log-zero, place-block};
 ghost use Rattle.definition.specs.Tables.{sort-number, plus-one};
 ghost use Rattle.layout.specs.Counts.{more};
 ghost use Rattle.layout.specs.Layout.{Shows};
-ghost use Rattle.form.specs.Can.{Cells, Ex, Can-make, Can-count, Has-value, Can-resolve, Can-append, Has-params, Next-param, Can-feed};
+ghost use Rattle.form.specs.Can.{Cells, Ex, Can-make, Can-count, Has-value, Can-append, Has-params, Next-param, Can-feed};
 ghost use Rattle.form.specs.Can.{Has-def, Recorded, Can-wait, Has-pending, Lists, Taken, Can-log, Has-placed, Can-place};
 use entity::Block;
 use entity::Branch;
@@ -117,16 +117,6 @@ pub fn change_to_alias(form: &mut [u32], val: Value, to: Value)
 {
     let i = val.0 as usize;
     form[TARGET + i] = to.0;
-}
-
-// The value that this one stands for, itself where it is no alias.
-pub fn resolve(form: &[u32], c: Counts, val: Value) -> Value
-    requires { ⌜ Ex (Can-resolve (now form) c (val .0)) ⌝ }
-    ensures { λ r. ⌜ ((s : Form) → Can-resolve (now (form .entry)) c (val .0) s → r .0 ≡ resolved s (val .0)) ⌝ }
-{
-    let end = TARGET + c.values as usize;
-    let answer = alias::resolve(&form[TARGET..end], val);
-    Value(answer.number)
 }
 
 // The definition of the variable in the block plus one; 0 for none.

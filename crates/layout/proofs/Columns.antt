@@ -1,17 +1,15 @@
--- A table with a cell for each value made so far: one value is read, all are, one is added, one is changed.
+-- A table with a cell for each value made so far: one value is read, one is added, one is changed.
 -- One cell is stored, and those past the values stay zeros.
 -- Assumes nothing.
-use Prim.Native.Nat.{ℕ, suc, _+_, _-_, _<_, _≤_}
+use Prim.Native.Nat.{ℕ, suc, _+_, _<_, _≤_}
 use mathlib.Core.Path.{_≡_, sym, ap, _∙_}
 use mathlib.Core.Bool.{cond}
-use mathlib.Core.List.{List, map}
+use mathlib.Core.List.{List}
 use native.Mathlib.Omega.{arith}
 use lib.Dec.{ltb}
-use lib.ListN.{length, getD, set, take, drop, length-drop, length-map}
-use lib.Seq.{length-take-le, getD-take, getD-drop, ext-getD}
-use Rattle.definition.specs.Base.{put, upFrom}
+use lib.ListN.{length, getD, set}
+use Rattle.definition.specs.Base.{put}
 use Rattle.meaning.proofs.Maps.{put-same, put-other}
-use Rattle.meaning.proofs.Chains.{up-length, up-at}
 use Rattle.layout.specs.Cells.{Table, blank, base, Holds, upto}
 use Rattle.layout.proofs.Cells.{store}
 use Rattle.layout.proofs.Values.{upto-in, upto-more}
@@ -19,18 +17,6 @@ use Rattle.layout.proofs.Values.{upto-in, upto-more}
 module _ (sizes l : List ℕ) (M : List Table) (t : ℕ) (h : Holds sizes l M) (n : ℕ) (f : Table) (is : getD M t blank ≡ upto n f) where
   pub column-at : (x : ℕ) → x < n → n ≤ getD sizes t 0 → getD l (base sizes t + x) 0 ≡ f x
   column-at x lt room = h .at t x (omega arith) ∙ ap (λ (g : Table). g x) is ∙ upto-in n f x lt
-
-  -- the cells of all values, as a part of the list
-  pub column-list : n ≤ getD sizes t 0 → base sizes t + getD sizes t 0 ≤ length l → take (base sizes t + n - base sizes t) (drop (base sizes t) l) ≡ map f (upFrom 0 n)
-  column-list room fits =
-      let e : base sizes t + n - base sizes t ≡ n = omega arith in
-      let long : length (take n (drop (base sizes t) l)) ≡ n = length-take-le n (drop (base sizes t) l) (rw length-drop (omega arith)) in
-      rw e
-      (ext-getD 0 (take n (drop (base sizes t) l)) (map f (upFrom 0 n)) (long ∙ sym (length-map (upFrom 0 n) f ∙ up-length 0 n))
-      (λ x lx.
-      let lt : x < n = omega arith in
-      let z : 0 + x ≡ x = omega arith in
-      getD-take n (drop (base sizes t) l) x 0 lt ∙ getD-drop (base sizes t) l x 0 ∙ column-at x lt room ∙ sym (up-at f 0 n x lt ∙ ap f z)))
 
   pub column-more : (f′ : Table) (v : ℕ) → t < length M → n < getD sizes t 0 → f′ n ≡ v → ((j : ℕ) → j < n → f′ j ≡ f j) → Holds sizes (set l (base sizes t + n) v) (set M t (upto (suc n) f′))
   column-more f′ v lt room on same =
