@@ -3,7 +3,7 @@
 use Prim.Native.Nat.{ℕ, suc}
 use mathlib.Core.Path.{_≡_, refl, sym, ap, _∙_}
 use mathlib.Core.Logic.{_≢_, inl, inr}
-use mathlib.Core.Bool.{true, false}
+use mathlib.Core.Bool.{true}
 use mathlib.Core.Option.{Option, none}
 use mathlib.Core.List.{List, [], _∷_, _++_, append-assoc, append-nil}
 use lib.ListN.{length, getD}
@@ -12,7 +12,8 @@ use native.Mathlib.Nat.{not-suc-le-zero}
 use Rattle.definition.specs.Base.{orElse}
 use Rattle.definition.specs.Form.{Graph, Form, Sort, made, param}
 use Rattle.definition.specs.Session.{Call, Done, State, Reply, no, ok, reply, tick, after, step, empty, run, session}
-use Rattle.meaning.specs.Path.{In, acts, declares, defines, Supposed, Fed, Demand-3}
+use Rattle.meaning.specs.Suppositions.{On-time}
+use Rattle.meaning.specs.Path.{In, acts, Supposed, Fed, Demand-3}
 use Rattle.meaning.proofs.Maps.{eqb-diff, false-true, some-none}
 use Rattle.meaning.proofs.Facts.{Edge, same, kept, Facts}
 use Rattle.meaning.proofs.Alias.{tree-start, follow-root}
@@ -61,9 +62,6 @@ run-more (c ∷ cs) t =
 split-in : (d : Done) (l : List Done) → In d l → (a b : List Done) × (l ≡ a ++ d ∷ b)
 split-in d (x ∷ l) (inl e) = ([], l, ap {B = List Done} (λ y. y ∷ l) (sym e))
 split-in d (x ∷ l) (inr i) = let k = split-in d l i in (x ∷ k .0, k .1, ap {B = List Done} (λ r. x ∷ r) (k .2))
-
-abbrev pub On-time : List Done → Type 0
-On-time l = (p : ℕ) (ds es : List Done) (d e : Done) → l ≡ ds ++ d ∷ es → declares p d ≡ true → In e es → defines p e ≡ false
 
 timely : (E : Type 0) (cs : List Call) (t : State) (c : Call) (h : Good E t) → On-time (run t (c ∷ cs) .done)
     → Timely E (t .graph) (t .form) (t .done) h c (reply (t .graph) (t .form) (t .done) (c .x) (c .y) (c .z) (c .kind))

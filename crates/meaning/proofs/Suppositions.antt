@@ -11,8 +11,7 @@ use native.Mathlib.Omega.{arith}
 use Rattle.definition.specs.Base.{put}
 use Rattle.definition.specs.Session.{Call, Done, State, session}
 use Rattle.meaning.specs.Path.{In, Act, makes, gives, uses, acts, declares, defines, Supposed, Faithful, Fed}
-use Rattle.meaning.specs.Suppositions.{Had, On-time, All-sealed, None-enters-0, All-declared, None-late, Own-values, defines-none, on-time?, owned?}
-use Rattle.meaning.specs.Suppositions.{all-sealed?, none-enters-0?, all-declared?, none-late?, own-values?, supposed?}
+use Rattle.meaning.specs.Suppositions.{Had, On-time, All-sealed, None-enters-0, All-declared, None-late, Own-values, defines-none, on-time?, owned?, all-sealed?, none-enters-0?, all-declared?, none-late?, own-values?, supposed?}
 use Rattle.meaning.proofs.Agree.{fork}
 use Rattle.meaning.proofs.Maps.{same?, eqb-eq, put-same, put-at, put-other}
 use Rattle.meaning.proofs.Facts.{cur}

@@ -7,8 +7,8 @@ use mathlib.Core.List.{List}
 use lib.Dec.{eqb}
 use Rattle.definition.specs.Session.{Call, State, session}
 use Rattle.meaning.specs.Path.{Faithful, Fed}
-use Rattle.meaning.specs.Suppositions.{All-sealed, None-enters-0, All-declared, None-late, Own-values, all-sealed?, none-enters-0?, all-declared?}
-use Rattle.meaning.specs.Suppositions.{none-late?, own-values?}
+use Rattle.meaning.specs.Suppositions.{All-sealed, None-enters-0, All-declared, None-late, Own-values}
+use Rattle.meaning.specs.Suppositions.{all-sealed?, none-enters-0?, all-declared?, none-late?, own-values?}
 
 -- the suppositions, counted from 1, but the one at k
 pub record Supposed-but (k : ℕ) (t : State) : Type 0 where
