@@ -39,7 +39,8 @@ pub answers-hold : (cs : List Call) → Supposed (session cs)
 answers-hold = demand-3
 
 -- Whether a session is as supposed is decided by looking at it.
-pub suppositions-decided : (cs : List Call) → (supposed? (session cs) ≡ true → Supposed (session cs)) × (Supposed (session cs) → supposed? (session cs) ≡ true)
+pub suppositions-decided : (cs : List Call)
+    → (supposed? (session cs) ≡ true → Supposed (session cs)) × (Supposed (session cs) → supposed? (session cs) ≡ true)
 suppositions-decided cs = (supposed-sound cs, supposed-complete cs)
 
 -- None of the five suppositions can be left out: without the one at k the claim is false.
