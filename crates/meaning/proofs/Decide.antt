@@ -10,7 +10,8 @@ use native.Mathlib.Nat.{not-suc-le-zero}
 use Rattle.definition.specs.Base.{has, every}
 use Rattle.meaning.specs.Path.{In}
 use Rattle.meaning.specs.Suppositions.{below}
-use Rattle.meaning.proofs.Maps.{same?, false-true}
+use Rattle.meaning.proofs.Maps.{same?}
+use Rattle.meaning.proofs.Maps.{false-true}
 use Rattle.meaning.proofs.Lists.{has-in, in-has}
 
 pub record Decides (b : Bool) (A : Type 0) : Type 0 where

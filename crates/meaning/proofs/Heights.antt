@@ -6,7 +6,7 @@ use mathlib.Core.Logic.{inl, inr}
 use mathlib.Core.Bool.{Bool, true, false}
 use mathlib.Core.Option.{Option, none, some}
 use mathlib.Core.List.{List, [], _∷_, _++_, map, reverse}
-use lib.ListN.{length, take, length-append, length-drop, length-map}
+use lib.ListN.{length, take, length-append, length-drop, length-map, drop}
 use native.Mathlib.Omega.{arith}
 use Rattle.definition.specs.Base.{before, without}
 use Rattle.definition.specs.Form.{Graph, Form, def}
@@ -43,6 +43,15 @@ module _ (g : Graph) (v : ℕ) where
     pub calls : length (c .tasks) + calls-left (c .form) ≤ a
     pub both : length (c .results) + length (c .tasks) + looks-left (c .form) ≤ b
 
+  -- where definitions stay, nothing more can come
+  still-within : (a b : ℕ) (ts : List Task) (rs : List ℕ) (s t : Form) → Somes s t → Low g ts → length ts + calls-left s ≤ a
+      → length rs + length ts + looks-left s ≤ b → Within a b (conf ts rs t)
+  still-within a b ts rs s t up hl hc hb = record {
+    low = hl;
+    calls = omega (arith, hc, weigh-mono (λ d. suc (length (g .preds d))) v s t up (g .blocks));
+    both = omega (arith, hb, weigh-mono (λ d. length (g .preds d)) v s t up (g .blocks));
+  }
+
 module _ (g : Graph) (G : Sound g) (v : ℕ) where
   -- the first turn, and each look: one call fewer is on its way
   pub visit-within : (a b p : ℕ) (ts : List Task) (rs : List ℕ) (s : Form) → p < g .blocks → Low g ts → length ts + calls-left g v s ≤ a
@@ -58,49 +67,35 @@ module _ (g : Graph) (G : Sound g) (v : ℕ) where
         where
           past : (over : List ℕ) (c : ℕ) (m : Option ℕ) → c < g .blocks → (m ≡ none → def s v c ≡ none)
               → Within g v a b (find g v ts rs s over c m)
-          past over c (some x) lc un = record {
-            low = hl;
-            calls = omega (arith, hc, weigh-mono (λ d. suc (length (g .preds d))) v s (mark v x over s) (mark-somes v x over s) (g .blocks));
-            both = omega (arith, hb, weigh-mono (λ d. length (g .preds d)) v s (mark v x over s) (mark-somes v x over s) (g .blocks));
-          }
+          past over c (some x) lc un = still-within g v a b ts (x ∷ rs) s (mark v x over s) (mark-somes v x over s) hl hc hb
           past over c none lc un = seal (g .sealed c)
             where
               x : ℕ
               x = s .next
 
-              up : (t : Form) → Somes (new-param g v c s) t → Somes s (mark v x (before c over) t)
-              up t k w d o = mark-somes v x (before c over) t w d (k w d (param-somes g v c s w d o))
+              bs : List ℕ
+              bs = before c over
 
               seal : (z : Bool) → Within g v a b (open-param g v c x (before c over) ts rs (new-param g v c s) z)
               seal true =
-                  let t = mark v x (before c over) (new-param g v c s) in
-                  let k = up (new-param g v c s) (λ w d o. o) in
-                  let at = mark-somes v x (before c over) (new-param g v c s) v c (param-has g v c s) in
+                  let t = mark v x bs (new-param g v c s) in
+                  let up : Somes s t = λ w d o. mark-somes v x bs (new-param g v c s) w d (param-somes g v c s w d o) in
+                  let at = mark-somes v x bs (new-param g v c s) v c (param-has g v c s) in
                   record {
                     low = low-more g (g .preds c) (finish x c ∷ ts) (λ q i. G .range c q i) hl;
-                    calls = omega (arith, hc, schedule-length g x c ts, weigh-drop (λ d. suc (length (g .preds d))) v s t k c (un refl) at (g .blocks) lc);
-                    both = omega (arith, hb, schedule-length g x c ts, weigh-drop (λ d. length (g .preds d)) v s t k c (un refl) at (g .blocks) lc);
+                    calls = omega (arith, hc, schedule-length g x c ts, weigh-drop (λ d. suc (length (g .preds d))) v s t up c (un refl) at (g .blocks) lc);
+                    both = omega (arith, hb, schedule-length g x c ts, weigh-drop (λ d. length (g .preds d)) v s t up c (un refl) at (g .blocks) lc);
                   }
-              seal false =
-                  let t = mark v x (before c over) (wait v c x (new-param g v c s)) in
-                  let k = up (wait v c x (new-param g v c s)) (λ w d o. o) in
-                  record {
-                    low = hl;
-                    calls = omega (arith, hc, weigh-mono (λ d. suc (length (g .preds d))) v s t k (g .blocks));
-                    both = omega (arith, hb, weigh-mono (λ d. length (g .preds d)) v s t k (g .blocks));
-                  }
+              seal false = still-within g v a b ts (x ∷ rs) s (mark v x bs (wait v c x (new-param g v c s)))
+                  (λ w d o. mark-somes v x bs (wait v c x (new-param g v c s)) w d (param-somes g v c s w d o)) hl hc hb
 
   pub turn-within : (a b : ℕ) (ts : List Task) (rs : List ℕ) (s : Form) → Within g v a b (conf ts rs s) → Within g v a b (turn g v ts rs s)
   turn-within a b [] rs s h = h
   turn-within a b (finish x c ∷ ts) rs s h =
-      let n = length (g .preds c) in
-      let left = without x (map (resolve s) (reverse (take n rs))) in
-      let up : Somes s (settle g c x (reverse (take n rs)) s .1) = settle-somes g c x (reverse (take n rs)) s left in
-      record {
-        low = h .low;
-        calls = omega (arith, h .calls, weigh-mono (λ d. suc (length (g .preds d))) v s (settle g c x (reverse (take n rs)) s .1) up (g .blocks));
-        both = omega (arith, h .both, length-drop n rs, weigh-mono (λ d. length (g .preds d)) v s (settle g c x (reverse (take n rs)) s .1) up (g .blocks));
-      }
+      let qs = reverse (take (length (g .preds c)) rs) in
+      let r = settle g c x qs s in
+      still-within g v a b ts (r .0 ∷ drop (length (g .preds c)) rs) s (r .1) (settle-somes g c x qs s (without x (map (resolve s) qs))) (h .low) (omega (arith, h .calls))
+      (omega (arith, h .both, length-drop (length (g .preds c)) rs))
   turn-within a b (look p ∷ ts) rs s h = visit-within a b p ts rs s (h .low .0) (h .low .1) (omega (arith, h .calls)) (omega (arith, h .both))
 
   -- at every moment of a run

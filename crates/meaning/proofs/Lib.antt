@@ -1,10 +1,12 @@
-pub mod Agree
-pub mod Against
+-- the index
+pub mod Theorems
+-- tests, maps, lists, sums
 pub mod Maps
-pub mod Alias
-pub mod Facts
 pub mod Lists
 pub mod Sums
+-- demand 3: the invariant of reading, what each call does to it, what it means on a path
+pub mod Alias
+pub mod Facts
 pub mod Lacking
 pub mod Inv
 pub mod Growing
@@ -15,16 +17,24 @@ pub mod Sealing
 pub mod Story
 pub mod Graphs
 pub mod Whole
-pub mod Causing
-pub mod Ranges
 pub mod Along
+pub mod Demand
+-- its suppositions: decided, met, needed
+pub mod Agree
+pub mod Against
+pub mod Decide
+pub mod Suppositions
+pub mod Trace
+pub mod Needed
+-- the machine, and what holds at its every moment and after every list of calls
 pub mod Machine
 pub mod Heights
+pub mod Causing
+pub mod Ranges
 pub mod Fall
 pub mod Load
 pub mod Mid
 pub mod Rest
-pub mod Demand
 pub mod Sure
 pub mod Rooms
 pub mod Causes
@@ -35,9 +45,4 @@ pub mod Stored
 pub mod Steady
 pub mod Holds
 pub mod Turns
-pub mod Decide
-pub mod Suppositions
-pub mod Trace
-pub mod Needed
 pub mod Answers
-pub mod Theorems

@@ -1,6 +1,6 @@
 -- Lists: membership, no duplicates, arguments by parameter; by induction on the list. Assumes nothing.
 pub use Rattle.meaning.specs.Stored.{Nodup}
-use Prim.Native.Nat.{_<_, zero, ℕ, _+_, suc}
+use Prim.Native.Nat.{_<_, zero, ℕ, suc}
 use mathlib.Core.Path.{_≡_, refl, sym, ap, _∙_, subst}
 use mathlib.Core.Logic.{⊎-map, _≢_, _⊎_, inl, inr}
 use mathlib.Core.Bool.{Bool, true, false, cond, _||_}
@@ -161,16 +161,6 @@ aux-in (x ∷ l) a r i = elim (aux-in l (x ∷ a) r i) [ inl j ↦ inl (inr j) |
 
 pub reverse-in : (l : List ℕ) (r : ℕ) → In r (reverse l) → In r l
 reverse-in l r i = elim (aux-in l [] r i) [ inl j ↦ j | inr j ↦ absurd j ]
-
-pub take-length : (n m : ℕ) (l : List ℕ) → length l ≡ n + m → length (take n l) ≡ n
-take-length zero m l e = refl
-take-length (suc n) m [] e = absurd (omega (arith, e))
-take-length (suc n) m (x ∷ l) e = ap suc (take-length n m l (omega (arith, e)))
-
-pub drop-length : (n m : ℕ) (l : List ℕ) → length l ≡ n + m → length (drop n l) ≡ m
-drop-length zero m l e = omega (arith, e)
-drop-length (suc n) m [] e = absurd (omega (arith, e))
-drop-length (suc n) m (x ∷ l) e = drop-length n m l (omega (arith, e))
 
 -- one more
 pub in-cons : {P : ℕ → Type 0} (x : ℕ) (l : List ℕ) → P x → ((r : ℕ) → In r l → P r) → (r : ℕ) → In r (x ∷ l) → P r

@@ -6,7 +6,7 @@ use mathlib.Core.Logic.{_≢_, _⊎_, inl, inr}
 use mathlib.Core.Bool.{Bool, true, false}
 use mathlib.Core.Option.{Option, none, some}
 use mathlib.Core.List.{List, [], _∷_, _++_, map, reverse}
-use lib.ListN.{length, take, drop, length-append, length-reverse}
+use lib.ListN.{length-take, length-drop, length, take, drop, length-append, length-reverse}
 use native.Mathlib.Omega.{arith}
 use native.Mathlib.Nat.{le-trans}
 use Rattle.definition.specs.Base.{put, before, without}
@@ -15,7 +15,7 @@ use Rattle.definition.specs.Read.{mark, new-param, walk, settle, resolve}
 use Rattle.meaning.specs.Machine.{Task, look, finish, Conf, conf, open-param, find, visit, settle-top, turn, turns}
 use Rattle.meaning.specs.Path.{In}
 use Rattle.meaning.proofs.Maps.{same?, put-same, put-other, false-true, put-put, put-id}
-use Rattle.meaning.proofs.Lists.{in-cons, take-length, take-in, reverse-in, drop-length, drop-in}
+use Rattle.meaning.proofs.Lists.{in-cons, take-in, reverse-in, drop-in}
 use Rattle.meaning.proofs.Inv.{pending, Inv, pending-par, Work}
 use Rattle.meaning.proofs.Growing.{grown}
 use Rattle.meaning.proofs.Settle.{Settled, settled}
@@ -202,7 +202,7 @@ module _ (g : Graph) (G : Sound g) (B : Bounds g) (v : ℕ) (lv : v < length (g 
         };
         busy = λ c e. busy c (same? c b) (h .busy c e);
         sane = h .sane .1;
-        fits = subst (λ (j : ℕ). Fits g ts (suc j)) (sym (drop-length n₂ (h .fits .0) rs (h .fits .1))) (h .fits .2);
+        fits = subst (λ (j : ℕ). Fits g ts (suc j)) (omega (arith, length-drop n₂ rs, h .fits .1)) (h .fits .2);
       },
       in-cons (settle g b x qs s .0) (drop n₂ rs) (rng .1) (λ r i. le-trans (low r (drop-in n₂ rs r i)) (d .grow .more)),
     )
@@ -215,7 +215,7 @@ module _ (g : Graph) (G : Sound g) (B : Bounds g) (v : ℕ) (lv : v < length (g 
 
         d : Settled g ⊥ s (put b (op₂ b) (put b ((v, x) ∷ op₂ b) op₂)) x (settle g b x (reverse (take (length (g .preds b)) rs)) s)
         d = settled g ⊥ s (h .rest .kp) (put b ((v, x) ∷ op₂ b) op₂) (h .rest .inv) v b x (op₂ b) (h .sane .0) (put-same b ((v, x) ∷ op₂ b) op₂) qs
-            (length-reverse (take n₂ rs) ∙ take-length n₂ (h .fits .0) rs (h .fits .1)) (λ z. absurd z) (G .nodup b)
+            (omega (arith, length-reverse (take n₂ rs), length-take n₂ rs, h .fits .1)) (λ z. absurd z) (G .nodup b)
 
         rng : Ranged g (settle g b x (reverse (take (length (g .preds b)) rs)) s .1)
             × (settle g b x (reverse (take (length (g .preds b)) rs)) s .0 < settle g b x (reverse (take (length (g .preds b)) rs)) s .1 .next)

@@ -12,8 +12,7 @@ use Rattle.definition.specs.Session.{Call, session}
 use Rattle.meaning.specs.Path.{Fed}
 use Rattle.meaning.specs.Trace.{begin, there?}
 use Rattle.meaning.specs.Needed.{Supposed-but, supposed-but?, Demand-3-but}
-use Rattle.meaning.proofs.Against.{null, unset, fresh, found-on, unsealed, unset-parameter, entered, not-made-yet, undeclared, zero-for-a-value, late}
-use Rattle.meaning.proofs.Against.{asked-too-early, foreign, made-anew, waiting, unfed}
+use Rattle.meaning.proofs.Against.{null, unset, fresh, found-on, unsealed, unset-parameter, entered, not-made-yet, undeclared, zero-for-a-value, late, asked-too-early, foreign, made-anew, waiting, unfed}
 use Rattle.meaning.proofs.Maps.{same?, eqb-same, eqb-diff, true-T}
 use Rattle.meaning.proofs.Demand.{demand-3}
 use Rattle.meaning.proofs.Decide.{Decides, turned, both}

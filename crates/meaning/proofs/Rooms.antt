@@ -138,7 +138,6 @@ pub record Moment (g : Graph) (v : ℕ) (later : Work) (k : ℕ) (c : Conf) : Ty
   pub rooms : Rooms g (c .form)
   pub tasks : length (c .tasks) ≤ call-room limits
   pub results : length (c .results) ≤ result-room limits
-  pub stacks : length (c .tasks) + length (c .results) ≤ result-room limits  -- both at once
   pub within : Within g v (call-room limits) (result-room limits) c
 
 module _ (g : Graph) (G : Sound g) (B : Bounds g) where
@@ -149,7 +148,6 @@ module _ (g : Graph) (G : Sound g) (B : Bounds g) where
     rooms = rooms-of g G B (at-work v (c .tasks) later) (finishes (c .tasks) k) (c .form) (h .0 .rest);
     tasks = omega (arith, w .calls);
     results = omega (arith, w .both);
-    stacks = omega (arith, w .both);
     within = w;
   }
 

@@ -1,6 +1,6 @@
 -- The form tells a block's own acts: each change of the form keeps what the acts before it said. Assumes nothing.
 use Prim.Native.Nat.{ℕ, _<_, _≤_}
-use mathlib.Core.Path.{_≡_, refl, sym, ap, _∙_, subst, fun-ext}
+use mathlib.Core.Path.{_≡_, refl, sym, ap, _∙_, fun-ext}
 use mathlib.Core.Logic.{_≢_, _⊎_, inl, inr}
 use mathlib.Core.Option.{Option, some}
 use mathlib.Core.List.{List, [], _∷_, _++_, append-assoc}
@@ -14,7 +14,7 @@ use Rattle.meaning.specs.Path.{In, Act, makes, gives, uses, act, acts}
 use Rattle.meaning.proofs.Maps.{same?, put-other, put-at}
 use Rattle.meaning.proofs.Facts.{cur, Told}
 use Rattle.meaning.proofs.Inv.{Grow}
-use Rattle.meaning.proofs.Lists.{in-cases, in-one}
+use Rattle.meaning.proofs.Lists.{in-cases, in-one, in-cons}
 
 -- as Told, but for what a definition takes
 abbrev pub Tells : Form → ℕ → (ℕ → Option ℕ) → List ℕ → List Act → Type 0
@@ -49,35 +49,27 @@ tells-mono s s′ h b f f′ ms u (makes x ∷ r) k =
 tells-mono s s′ h b f f′ ms u (gives v x ∷ r) k = tells-mono s s′ h b (put v (some x) f) (put v (some x) f′) ms (under-put f f′ v x u) r k
 tells-mono s s′ h b f f′ ms u (uses v x ∷ r) k = ((k .0 .0, u v (k .0 .0) (k .0 .1), h .res x (k .0 .0) (k .0 .2)), tells-mono s s′ h b f f′ ms u r (k .1))
 
--- one more act
-pub tells-makes : (s s′ : Form) → Keeps s s′ → (b : ℕ) (f : ℕ → Option ℕ) (ms : List ℕ) → ((y : ℕ) → In y ms → y < s .next)
-    → s .next < s′ .next
-    → s′ .info (s .next) .home ≡ b → s′ .info (s .next) .sort ≡ made → (r : List Act) → Tells s b f ms r
-    → Tells s′ b f ms (r ++ makes (s .next) ∷ [])
-tells-makes s s′ h b f ms low more home sort [] k = (λ i. omega (arith, low (s .next) i), more, home, sort, tt)
-tells-makes s s′ h b f ms low more home sort (makes x ∷ r) k =
-    let i = h .info x (k .1) in
-    (k .0, le-trans (k .1) (h .more), ap (λ (j : Info). j .home) i ∙ k .2, ap (λ (j : Info). j .sort) i ∙ k .3, tells-makes s s′ h b f (x ∷ ms) lower more home sort r (k .4))
-  where
-    lower : (y : ℕ) → In y (x ∷ ms) → y < s .next
-    lower y (inl e) = subst (λ (j : ℕ). j < s .next) (sym e) (k .1)
-    lower y (inr i) = low y i
-tells-makes s s′ h b f ms low more home sort (gives v x ∷ r) k = tells-makes s s′ h b (put v (some x) f) ms low more home sort r k
-tells-makes s s′ h b f ms low more home sort (uses v x ∷ r) k = ((k .0 .0, k .0 .1, h .res x (k .0 .0) (k .0 .2)), tells-makes s s′ h b f ms low more home sort r (k .1))
+-- ms and what some acts make
+abbrev made-by : List ℕ → List Act → List ℕ
+made-by ms [] = ms
+made-by ms (makes x ∷ r) = made-by (x ∷ ms) r
+made-by ms (gives v x ∷ r) = made-by ms r
+made-by ms (uses v x ∷ r) = made-by ms r
 
-pub tells-gives : (s : Form) (b : ℕ) (f : ℕ → Option ℕ) (ms : List ℕ) (v x : ℕ) (r : List Act) → Tells s b f ms r
-    → Tells s b f ms (r ++ gives v x ∷ [])
-tells-gives s b f ms v x [] k = tt
-tells-gives s b f ms v x (makes y ∷ r) k = (k .0, k .1, k .2, k .3, tells-gives s b f (y ∷ ms) v x r (k .4))
-tells-gives s b f ms v x (gives w y ∷ r) k = tells-gives s b (put w (some y) f) ms v x r k
-tells-gives s b f ms v x (uses w y ∷ r) k = (k .0, tells-gives s b f ms v x r (k .1))
+pub made-below : (s : Form) (b : ℕ) (f : ℕ → Option ℕ) (ms : List ℕ) (r : List Act) → Tells s b f ms r → ((y : ℕ) → In y ms → y < s .next)
+    → (y : ℕ) → In y (made-by ms r) → y < s .next
+made-below s b f ms [] k low = low
+made-below s b f ms (makes x ∷ r) k low = made-below s b f (x ∷ ms) r (k .4) (in-cons x ms (k .1) low)
+made-below s b f ms (gives v x ∷ r) k low = made-below s b (put v (some x) f) ms r k low
+made-below s b f ms (uses v x ∷ r) k low = made-below s b f ms r (k .1) low
 
-pub tells-uses : (s : Form) (b : ℕ) (f : ℕ → Option ℕ) (ms : List ℕ) (v x : ℕ) (r : List Act)
-    → (o : ℕ) × (cur f r v ≡ some o) × (resolve s x ≡ resolve s o) → Tells s b f ms r → Tells s b f ms (r ++ uses v x ∷ [])
-tells-uses s b f ms v x [] o k = (o, tt)
-tells-uses s b f ms v x (makes y ∷ r) o k = (k .0, k .1, k .2, k .3, tells-uses s b f (y ∷ ms) v x r o (k .4))
-tells-uses s b f ms v x (gives w y ∷ r) o k = tells-uses s b (put w (some y) f) ms v x r o k
-tells-uses s b f ms v x (uses w y ∷ r) o k = (k .0, tells-uses s b f ms v x r o (k .1))
+-- more acts
+pub tells-append : (s : Form) (b : ℕ) (f : ℕ → Option ℕ) (ms : List ℕ) (r q : List Act) → Tells s b f ms r → Tells s b (cur f r) (made-by ms r) q
+    → Tells s b f ms (r ++ q)
+tells-append s b f ms [] q k l = l
+tells-append s b f ms (makes x ∷ r) q k l = (k .0, k .1, k .2, k .3, tells-append s b f (x ∷ ms) r q (k .4) l)
+tells-append s b f ms (gives v x ∷ r) q k l = tells-append s b (put v (some x) f) ms r q k l
+tells-append s b f ms (uses v x ∷ r) q k l = (k .0, tells-append s b f ms r q (k .1) l)
 
 -- what stands for a variable: the last definition, else what stood at the start
 pub cur-or : (f : ℕ → Option ℕ) (r : List Act) (g : ℕ → Option ℕ) (v : ℕ) → cur (λ w. orElse (g w) (f w)) r v ≡ orElse (cur g r v) (f v)

@@ -1,5 +1,5 @@
 -- What is proved of the definition, one theorem after the other. Their words are in specs/, and each proof cites the one that shows it. Assumes nothing.
-use Prim.Native.Nat.{ℕ, _<_}
+use Prim.Native.Nat.{ℕ, _<_, _≤_}
 use mathlib.Core.Path.{_≡_}
 use mathlib.Core.Bool.{true}
 use mathlib.Core.List.{List}
@@ -17,6 +17,8 @@ use Rattle.meaning.specs.Rooms.{Rooms}
 use Rattle.meaning.specs.Causes.{Once}
 use Rattle.meaning.specs.Enough.{Enough}
 use Rattle.meaning.specs.Holds.{Holds}
+use Rattle.meaning.specs.Suppositions.{supposed?}
+use Rattle.meaning.specs.Needed.{Demand-3-but}
 use Rattle.meaning.proofs.Rooms.{fed-always}
 use Rattle.meaning.proofs.Steady.{calls-count, logged}
 use Rattle.meaning.proofs.Turns.{scheduled, scheduled-all}
@@ -24,14 +26,25 @@ use Rattle.meaning.proofs.Demand.{demand-3}
 use Rattle.meaning.proofs.Answers.{answered-one}
 use Rattle.meaning.proofs.Holds.{holds}
 use Rattle.meaning.proofs.Sure.{sure}
+use Rattle.meaning.proofs.Suppositions.{supposed-sound, supposed-complete}
+use Rattle.meaning.proofs.Needed.{needed}
 
 -- ---- demand 3
 
 -- On every path each use's answer, aliases resolved, holds what its variable last received, or zero; and every destination has an argument for each parameter
--- of its block. Supposed is what `Supposed` lists.
+-- of its block: where all is as `Supposed` lists.
 pub answers-hold : (cs : List Call) → Supposed (session cs)
     → ((W : Type 0) (null : ℕ → W) → Faithful W null (session cs)) × Fed (session cs)
 answers-hold = demand-3
+
+-- Whether a session is as supposed is decided by looking at it.
+pub suppositions-decided : (cs : List Call)
+    → (supposed? (session cs) ≡ true → Supposed (session cs)) × (Supposed (session cs) → supposed? (session cs) ≡ true)
+suppositions-decided cs = (supposed-sound cs, supposed-complete cs)
+
+-- None of the five suppositions can be left out: without the one at k the claim is false.
+pub suppositions-needed : (k : ℕ) → 1 ≤ k → k ≤ 5 → Demand-3-but k → ⊥
+suppositions-needed = needed
 
 -- ---- the machine
 

@@ -27,7 +27,7 @@ use Rattle.meaning.proofs.Inv.{Grow, grow-refl, grow-trans, Inv, make-i
 use Rattle.meaning.proofs.Settle.{relog-inv}
 use Rattle.meaning.proofs.Reading.{Sound, Read, reads}
 use Rattle.meaning.proofs.Sealing.{idle, shallow, sealed-one}
-use Rattle.meaning.proofs.Story.{Tells, Keeps, keeps, tells-mono, tells-makes, tells-gives, tells-uses, cur-or, cur-append, acts-append}
+use Rattle.meaning.proofs.Story.{Tells, Keeps, keeps, tells-mono, cur-or, cur-append, acts-append, tells-append, made-below}
 use Rattle.meaning.proofs.Graphs.{wider-inv, aimed-inv, joined-inv, write-inv}
 
 pub record Whole (E : Type 0) (g : Graph) (s : Form) (ds : List Done) : Type 0 where
@@ -274,8 +274,14 @@ module _ (E : Type 0) (g : Graph) (s : Form) (ds : List Done) (h : Whole E g s d
         | inr d ↦ h .own b v ∙ sym (cur-else n x (makes n) (is n) b v d)
       ])
       (λ b. elim (same? x b) [
-        | inl e ↦ tells-here n x (makes n) (is n) s₂ b e (tells-makes s s₂ (keeps up) b (λ v. s .entry v b) [] (λ z i. absurd i) (omega arith)
-            (ap (λ (i : Info). i .home) new ∙ e) (ap (λ (i : Info). i .sort) new) (acts b ds) (h .tells b))
+        | inl e ↦ tells-here n x (makes n) (is n) s₂ b e (tells-append s₂ b (λ v. s .entry v b) [] (acts b ds) (makes n ∷ [])
+            (tells-mono s s₂ (keeps up) b (λ v. s .entry v b) (λ v. s .entry v b) [] (λ v o q. q) (acts b ds) (h .tells b)) (
+              λ i. omega (arith, made-below s b (λ v. s .entry v b) [] (acts b ds) (h .tells b) (λ y j. absurd j) n i),
+              omega arith,
+              ap (λ (i : Info). i .home) new ∙ e,
+              ap (λ (i : Info). i .sort) new,
+              tt,
+            ))
         | inr d ↦ tells-else n x (makes n) (is n) s₂ (keeps up) b (λ v u q. q) d
       ])
     where
@@ -307,8 +313,8 @@ module _ (E : Type 0) (g : Graph) (s : Form) (ds : List Done) (h : Whole E g s d
         | inr d ↦ put₂-other v b (some x) (s .own) w c (λ _ q. d (sym q)) ∙ h .own c w ∙ sym (cur-else x b (gives v x) (is x) c w d)
       ])
       (λ c. elim (same? b c) [
-        | inl e ↦ tells-here x b (gives v x) (is x) (write v b x s) c e (tells-gives (write v b x s) c (λ w. s .entry w c) [] v x (acts c ds)
-            (tells-mono s (write v b x s) level c (λ w. s .entry w c) (λ w. s .entry w c) [] (λ w o q. q) (acts c ds) (h .tells c)))
+        | inl e ↦ tells-here x b (gives v x) (is x) (write v b x s) c e (tells-append (write v b x s) c (λ w. s .entry w c) [] (acts c ds) (gives v x ∷ [])
+            (tells-mono s (write v b x s) level c (λ w. s .entry w c) (λ w. s .entry w c) [] (λ w o q. q) (acts c ds) (h .tells c)) tt)
         | inr d ↦ tells-else x b (gives v x) (is x) (write v b x s) level c (λ w u q. q) d
       ])
     where
@@ -337,8 +343,8 @@ module _ (E : Type 0) (g : Graph) (s : Form) (ds : List Done) (h : Whole E g s d
             | inr d ↦ r .grow .own w c ∙ h .own c w ∙ sym (cur-else (q .0) b (uses v (q .0)) (is (q .0)) c w d)
           ])
           (λ c. elim (same? b c) [
-            | inl e ↦ tells-here (q .0) b (uses v (q .0)) (is (q .0)) (q .1) c e (tells-uses (q .1) c (λ w. q .1 .entry w c) [] v (q .0) (acts c ds) (r .o, stands c e, r .alike)
-                (tells-mono s (q .1) (keeps (r .grow)) c (λ w. s .entry w c) (λ w. q .1 .entry w c) [] (λ w u i. r .grow .entry w c u i) (acts c ds) (h .tells c)))
+            | inl e ↦ tells-here (q .0) b (uses v (q .0)) (is (q .0)) (q .1) c e (tells-append (q .1) c (λ w. q .1 .entry w c) [] (acts c ds) (uses v (q .0) ∷ [])
+                (tells-mono s (q .1) (keeps (r .grow)) c (λ w. s .entry w c) (λ w. q .1 .entry w c) [] (λ w u i. r .grow .entry w c u i) (acts c ds) (h .tells c)) ((r .o, stands c e, r .alike), tt))
             | inr d ↦ tells-else (q .0) b (uses v (q .0)) (is (q .0)) (q .1) (keeps (r .grow)) c (λ w u i. r .grow .entry w c u i) d
           ])
         where
