@@ -26,7 +26,7 @@ dest-yes [] i b l e = absurd (not-suc-le-zero l)
 dest-yes (d ∷ ds) zero b l e = ap (λ (k : ℕ). eqb k b) e ∙ eqb-same b
 dest-yes (d ∷ ds) (suc i) b l e = dest-yes ds i b (le-of-suc-le-suc l) e
 
-dest-is : (ds : List ℕ) (i b : ℕ) → is-dest ds i b ≡ true → (i < length ds) × (getD ds i 0 ≡ b)
+pub dest-is : (ds : List ℕ) (i b : ℕ) → is-dest ds i b ≡ true → (i < length ds) × (getD ds i 0 ≡ b)
 dest-is [] i b e = absurd (false-true refl e)
 dest-is (d ∷ ds) zero b e = (omega arith, eqb-eq d b e)
 dest-is (d ∷ ds) (suc i) b e = let r = dest-is ds i b e in (omega (arith, r .0), r .1)

@@ -1,0 +1,1 @@
+// Reading a variable, and sealing a block.
