@@ -45,7 +45,7 @@ module _ (g : Graph) (v : ℕ) where
   idle-turns zero c e = refl
   idle-turns (suc n) c e = ap (turns n g v) (idle-turn c e) ∙ idle-turns n c e
 
-  idle-goes : {c d : Conf} → Goes g v c d → c .tasks ≡ [] → d ≡ c
+  pub idle-goes : {c d : Conf} → Goes g v c d → c .tasks ≡ [] → d ≡ c
   idle-goes there e = refl
   idle-goes (on {c} {d} q) e = let k = idle-turn c e in idle-goes q (ap (λ (u : Conf). u .tasks) k ∙ e) ∙ k
 

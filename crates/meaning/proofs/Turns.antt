@@ -29,7 +29,7 @@ use Rattle.meaning.proofs.Enough.{enough-of}
 
 module _ (g : Graph) (v : ℕ) where
   -- a run that ends goes on from its first turn
-  goes-on : {c d : Conf} → Goes g v c d → d .tasks ≡ [] → Goes g v (turn g v (c .tasks) (c .results) (c .form)) d
+  pub goes-on : {c d : Conf} → Goes g v c d → d .tasks ≡ [] → Goes g v (turn g v (c .tasks) (c .results) (c .form)) d
   goes-on (there {c}) e = subst (λ (u : Conf). Goes g v u c) (sym (idle-turn g v c e)) there
   goes-on (on q) e = q
 

@@ -6,7 +6,7 @@ use mathlib.Core.List.{List, [], _∷_}
 use lib.ListN.{length}
 use Rattle.definition.specs.Form.{Graph, Form}
 use Rattle.definition.specs.Read.{type-of}
-use Rattle.meaning.specs.Machine.{Conf, conf}
+use Rattle.meaning.specs.Machine.{Task, Conf, conf}
 use Rattle.meaning.proofs.Machine.{Goes}
 use Rattle.meaning.proofs.Rooms.{Moment}
 use Rattle.layout.specs.declared.Counts.{Counts}
@@ -25,9 +25,13 @@ pub record Under-way (gl fl wl : List ℕ) (c : Counts) (v ty : ℕ) (g : Graph)
   pub number : ℕ
   pub moment : Moment g v others number k
 
--- there are a graph and a configuration such that
-abbrev pub Run-with : (Graph → Conf → Type 0) → Type 0
-Run-with P = (g : Graph) × (k : Conf) × P g k
+-- there are a graph, a task on top, what is below it, and a form such that
+abbrev pub Turn-with : (Graph → Task → List Task → List ℕ → Form → Type 0) → Type 0
+Turn-with P = (g : Graph) × (q : Task) × (ts : List Task) × (rs : List ℕ) × (s : Form) × P g q ts rs s
+
+-- there are a graph, a configuration, an answer and a form such that
+abbrev pub Run-with : (Graph → Conf → ℕ → Form → Type 0) → Type 0
+Run-with P = (g : Graph) × (k : Conf) × (x : ℕ) × (s : Form) × P g k x s
 
 -- and the run ends with the answer x and the form s
 pub record Can-run (gl fl wl : List ℕ) (c : Counts) (v ty : ℕ) (g : Graph) (k : Conf) (x : ℕ) (s : Form) : Type 0 where
