@@ -2,16 +2,18 @@
 -- Assumes nothing.
 use Prim.Native.Nat.{ℕ, _+_, _≤_, _<_}
 use mathlib.Core.Path.{_≡_}
-use mathlib.Core.Option.{none, some}
-use mathlib.Core.List.{List}
+use mathlib.Core.Option.{Option, none, some}
+use mathlib.Core.List.{List, []}
 use lib.ListN.{length}
 use Rattle.entity.specs.Limits.{limits, value-room, param-room, call-room, result-room}
 use Rattle.definition.specs.Form.{Graph, Form, def}
 use Rattle.definition.specs.Read.{type-of}
-use Rattle.meaning.specs.Machine.{Task, visit}
+use Rattle.meaning.specs.Machine.{Task, find, visit}
 use Rattle.layout.specs.declared.Counts.{Counts}
 use Rattle.layout.specs.Layout.{Shows, Stacks, Shown}
 use Rattle.graph.specs.Seen.{Seen}
+use Rattle.lookup.specs.declared.Found.{Found}
+use Rattle.lookup.specs.Walk.{whole-walk}
 
 -- there are a graph, a form and stacks such that
 abbrev pub All-with : (Graph → Form → List Task → List ℕ → Type 0) → Type 0
@@ -53,6 +55,23 @@ pub record Can-use (gl fl wl : List ℕ) (c : Counts) (v ty b : ℕ) (g : Graph)
   pub type : ty ≡ type-of g v
   pub known : b < g .blocks
   pub ready : Ready g v s ts rs
+
+-- and b has no definition of v
+pub record Can-find (gl fl wl : List ℕ) (c : Counts) (v ty b : ℕ) (g : Graph) (s : Form) (ts : List Task) (rs : List ℕ) : Type 0 where
+  pub asks : Can-use gl fl wl c v ty b g s ts rs
+  pub lacks : def s v b ≡ none
+
+-- what a walk met; else the parameter to be made
+abbrev pub found : Form → Option ℕ → ℕ
+found s (some x) = x
+found s none = s .next
+
+-- what is found in or for b and where it comes from, and the cells before it is copied back to the blocks passed: none of them is marked
+pub record Finds (fl wl : List ℕ) (n : ℕ) (r : Found) (v b : ℕ) (g : Graph) (s : Form) (ts : List Task) (rs : List ℕ) : Type 0 where
+  pub from : r .from .0 ≡ whole-walk g v b s .end
+  pub val : r .val .0 ≡ found s (whole-walk g v b s .met)
+  pub call : r .counts .call ≡ n
+  pub shown : Shown fl wl (r .counts) (find g v ts rs s [] (whole-walk g v b s .end) (whole-walk g v b s .met))
 
 -- the cells after v was visited in b, and the counts r; the call's number n is unchanged
 pub record Visits (fl wl : List ℕ) (n : ℕ) (r : Counts) (v b : ℕ) (g : Graph) (s : Form) (ts : List Task) (rs : List ℕ) : Type 0 where
