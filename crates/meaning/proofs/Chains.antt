@@ -48,11 +48,11 @@ module _ (ts : List ℕ) where
   resolved-same x k n l m (lost a f) (lost b h) = (refl, refl)
 
 -- the list of targets
-up-length : (i n : ℕ) → length (upFrom i n) ≡ n
+pub up-length : (i n : ℕ) → length (upFrom i n) ≡ n
 up-length i zero = refl
 up-length i (suc n) = ap suc (up-length (suc i) n)
 
-up-at : (f : ℕ → ℕ) (i n x : ℕ) → x < n → getD (map f (upFrom i n)) x 0 ≡ f (i + x)
+pub up-at : (f : ℕ → ℕ) (i n x : ℕ) → x < n → getD (map f (upFrom i n)) x 0 ≡ f (i + x)
 up-at f i zero x l = absurd (not-suc-le-zero l)
 up-at f i (suc n) zero l = ap f (omega arith)
 up-at f i (suc n) (suc x) l = up-at f (suc i) n x (omega arith) ∙ ap f (omega arith)

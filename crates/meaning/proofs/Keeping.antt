@@ -32,10 +32,10 @@ dest-is (d ∷ ds) zero b e = (omega arith, eqb-eq d b e)
 dest-is (d ∷ ds) (suc i) b e = let r = dest-is ds i b e in (omega (arith, r .0), r .1)
 
 -- feeding reaches the destinations of p that are b, and nothing else
-feed-here : (p b x i : ℕ) (ds : List ℕ) (a : ℕ → ℕ → List ℕ) → is-dest ds i b ≡ true → feed p b x ds a p i ≡ a p i ++ x ∷ []
+pub feed-here : (p b x i : ℕ) (ds : List ℕ) (a : ℕ → ℕ → List ℕ) → is-dest ds i b ≡ true → feed p b x ds a p i ≡ a p i ++ x ∷ []
 feed-here p b x i ds a e = rw (eqb-same p) (rw e refl)
 
-feed-else : (p b x q i : ℕ) (ds : List ℕ) (a : ℕ → ℕ → List ℕ) → (q ≡ p → is-dest ds i b ≡ false) → feed p b x ds a q i ≡ a q i
+pub feed-else : (p b x q i : ℕ) (ds : List ℕ) (a : ℕ → ℕ → List ℕ) → (q ≡ p → is-dest ds i b ≡ false) → feed p b x ds a q i ≡ a q i
 feed-else p b x q i ds a n = elim (same? q p) [ inl e ↦ rw (e, eqb-same p, n e) refl | inr d ↦ rw (eqb-diff q p d) refl ]
 
 -- r is the result of the predecessor q
@@ -45,7 +45,7 @@ Pairs q r (p ∷ ps) [] = ⊥
 Pairs q r (p ∷ ps) (t ∷ rs) = ((q ≡ p) × (r ≡ t)) ⊎ Pairs q r ps rs
 
 module _ (g : Graph) (b : ℕ) where
-  all-else : (ps rs : List ℕ) (a : ℕ → ℕ → List ℕ) (q i : ℕ) → (In q ps → is-dest (g .dests q) i b ≡ false) → feed-all g b ps rs a q i ≡ a q i
+  pub all-else : (ps rs : List ℕ) (a : ℕ → ℕ → List ℕ) (q i : ℕ) → (In q ps → is-dest (g .dests q) i b ≡ false) → feed-all g b ps rs a q i ≡ a q i
   all-else [] rs a q i n = refl
   all-else (p ∷ ps) [] a q i n = refl
   all-else (p ∷ ps) (r ∷ rs) a q i n = all-else ps rs (feed p b r (g .dests p) a) q i (λ j. n (inr j)) ∙ feed-else p b r q i (g .dests p) a (λ e. rw e at (n (inl e)))

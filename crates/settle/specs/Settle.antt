@@ -2,25 +2,96 @@
 -- Assumes nothing.
 use Prim.Native.Nat.{ℕ, _≤_, _<_}
 use mathlib.Core.Path.{_≡_}
-use mathlib.Core.Bool.{true, false}
-use mathlib.Core.List.{List}
+use mathlib.Core.Bool.{true, false, cond}
+use mathlib.Core.List.{List, [], _∷_}
+use lib.Dec.{eqb}
 use lib.ListN.{length, drop}
+use Rattle.entity.specs.declared.Value.{Value}
 use Rattle.entity.specs.Limits.{limits, value-room, zero-room, param-room, pred-room, result-room}
-use Rattle.definition.specs.Base.{has}
-use Rattle.definition.specs.Form.{Graph, Form}
-use Rattle.definition.specs.Read.{resolve, is-dest, settle}
+use Rattle.definition.specs.Base.{has, every}
+use Rattle.definition.specs.Form.{Graph, Form, nought}
+use Rattle.definition.specs.Read.{resolve, is-dest, settle, make, log-zero, place-block}
 use Rattle.definition.specs.Resolve.{Ends, targets as targets-of}
 use Rattle.meaning.specs.Path.{In}
 use Rattle.meaning.specs.Machine.{Task, conf}
 use Rattle.layout.specs.declared.Counts.{Counts}
 use Rattle.layout.specs.Layout.{Shows, Stacks, Shown}
 use Rattle.graph.specs.Seen.{Seen}
-use Rattle.work.specs.Work.{lasts}
+use Rattle.form.specs.Can.{Cells, Can-make, Has-value, Has-params}
+use Rattle.work.specs.Work.{Can-take, lasts}
+use Rattle.settle.specs.declared.Agreement.{Agreement}
 use Rattle.settle.specs.declared.Finished.{Finished}
+
+-- ---- do the results agree?
+
+-- there are a form and stacks such that
+abbrev pub Some-with : (Form → List Task → List ℕ → Type 0) → Type 0
+Some-with P = (s : Form) × (ts : List Task) × (rs : List ℕ) × P s ts rs
+
+-- the chain of names from x ends
+pub record Can-resolve (fl : List ℕ) (c : Counts) (x : ℕ) (s : Form) : Type 0 where
+  pub shows : Shows fl c s
+  pub few : s .next ≤ value-room limits
+  pub chain : Ends (targets-of s) x (resolve s x)
+
+-- the chains from the last n results end
+pub record Can-agree (fl wl : List ℕ) (c : Counts) (n : ℕ) (s : Form) (ts : List Task) (rs : List ℕ) : Type 0 where
+  pub shows : Shows fl c s
+  pub results : Can-take wl c n ts rs
+  pub few : s .next ≤ value-room limits
+  pub chains : (r : ℕ) → In r (lasts n rs) → Ends (targets-of s) r (resolve s r)
+
+abbrev pub value : ℕ → Value
+value x = record { 0 = x }
+
+-- what the results say, resolved and without the parameter
+abbrev pub judge : List ℕ → Agreement
+judge [] = Agreement.Nothing
+judge (y ∷ ys) = cond (every (eqb y) ys) (Agreement.One (value y)) Agreement.Many
+
+-- ---- a zero, another name, arguments
+
+-- there is room for one more zero, in block b
+pub record Can-zero (fl : List ℕ) (c : Counts) (x b : ℕ) (s : Form) : Type 0 where
+  pub make : Can-make fl c s
+  pub there : x < s .next
+  pub log : length (s .zeros) < zero-room limits
+  pub placed : length (s .placed) ≤ pred-room limits
+  pub place : has b (s .placed) ≡ false → length (s .placed) < pred-room limits
+
+-- the next value is a zero of x's type in block b, and call n added it
+abbrev pub zeroed : ℕ → ℕ → ℕ → Form → Form
+zeroed n x b s = make nought (s .info x .type) b (log-zero n b (place-block b s))
+
+-- x can become another name, and leave the parameters of b
+pub record Can-alias (fl : List ℕ) (x b : ℕ) (s : Form) : Type 0 where
+  pub val : Has-value fl x s
+  pub params : Has-params fl b s
+
+-- there are a graph and a form such that
+abbrev pub Both-with : (Graph → Form → Type 0) → Type 0
+Both-with P = (g : Graph) × (s : Form) × P g s
+
+-- the branch of p has room for an argument at each destination that is b
+pub record Can-feed-branch (gl fl : List ℕ) (p b : ℕ) (g : Graph) (s : Form) : Type 0 where
+  pub seen : Seen gl g
+  pub cells : Cells fl s
+  pub branch : p < limits .blocks
+  pub rows : (i : ℕ) → is-dest (g .dests p) i b ≡ true → length (s .args p i) < param-room limits
 
 -- there are a graph, a form and stacks such that
 abbrev pub All-with : (Graph → Form → List Task → List ℕ → Type 0) → Type 0
 All-with P = (g : Graph) × (s : Form) × (ts : List Task) × (rs : List ℕ) × P g s ts rs
+
+-- each branch to b has room, and there is a result for each
+pub record Can-feed-all (gl fl wl : List ℕ) (c : Counts) (b : ℕ) (g : Graph) (s : Form) (ts : List Task) (rs : List ℕ) : Type 0 where
+  pub seen : Seen gl g
+  pub cells : Cells fl s
+  pub known : b < limits .blocks
+  pub results : Can-take wl c (length (g .preds b)) ts rs
+  pub rows : (p : ℕ) → In p (g .preds b) → (i : ℕ) → is-dest (g .dests p) i b ≡ true → length (s .args p i) < param-room limits
+
+-- ---- settling
 
 -- the parameter x of b can be settled by the results rs
 pub record Settles (g : Graph) (x b : ℕ) (s : Form) (rs : List ℕ) : Type 0 where

@@ -1,0 +1,4 @@
+pub mod Resolves
+pub mod Judges
+pub mod Feeds
+pub mod Settles
