@@ -17,7 +17,7 @@ use Rattle.meaning.specs.Machine.{Conf, conf, schedule, visit, turns}
 use Rattle.meaning.specs.Path.{In}
 use Rattle.meaning.specs.Rooms.{Rooms}
 use Rattle.meaning.proofs.Maps.{put-same, put-other, false-true, some-none, ltb-yes, ltb-no}
-use Rattle.meaning.proofs.Lists.{snds, has-in, in-has}
+use Rattle.meaning.proofs.Lists.{snds, snds-length, has-in, in-has}
 use Rattle.meaning.proofs.Inv.{Inv, pending}
 use Rattle.meaning.proofs.Reading.{Sound}
 use Rattle.meaning.proofs.Sealing.{idle}
@@ -52,10 +52,6 @@ module _ (g : Graph) (G : Sound g) (B : Bounds g) (s : Form) (kp : ℕ → List 
       by x (inr i) =
           let k = of-variable c x i in
           (k .0, k .1, put-other v (some (s .next)) (λ w. s .entry w c) (k .0) (λ q. some-none (k .2) (ap (λ (u : ℕ). s .entry u c) q ∙ blank)) ∙ k .2)
-
-  snds-length : (l : List (ℕ × ℕ)) → length (snds l) ≡ length l
-  snds-length [] = refl
-  snds-length (q ∷ l) = ap suc (snds-length l)
 
   parts : (b : ℕ) → length (s .params b) ≡ length (kp b) + length (pending g s op b)
   parts b = ap length (h .listed .split b) ∙ length-append (kp b) (snds (pending g s op b)) ∙ ap (λ (n : ℕ). length (kp b) + n) (snds-length (pending g s op b))

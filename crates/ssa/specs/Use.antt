@@ -8,7 +8,7 @@ use lib.ListN.{length}
 use Rattle.definition.specs.Base.{put}
 use Rattle.definition.specs.Form.{Graph, Form}
 use Rattle.definition.specs.Read.{read, depth, fill}
-use Rattle.definition.specs.Session.{mark-sealed}
+use Rattle.definition.specs.Session.{mark-sealed, seal-form}
 use Rattle.meaning.specs.Machine.{conf}
 use Rattle.meaning.proofs.Rest.{Rest}
 use Rattle.meaning.proofs.Sealing.{idle}
@@ -51,13 +51,17 @@ pub record Has-filled (fl wl : List ℕ) (n : ℕ) (r : Counts) (v x b : ℕ) (g
   pub call : r .call ≡ n
   pub shown : Shown fl wl r (conf [] [] (fill (read (depth g) g v) g b x s .1))
 
--- block b can be sealed
+-- block b is there, to be sealed
 pub record Can-seal (gl fl wl : List ℕ) (c : Counts) (b : ℕ) (g : Graph) (s : Form) : Type 0 where
   pub rest : At-rest gl fl wl c g s
   pub known : b < g .blocks
-  pub unsealed : g .sealed b ≡ false
 
--- and is marked in the cells, while what waits there still waits
+-- a sealed block stays as it is; another is sealed
+pub record Has-sealed (gl fl wl : List ℕ) (r : Counts) (b : ℕ) (g : Graph) (s : Form) : Type 0 where
+  pub again : g .sealed b ≡ true → At-rest gl fl wl r g s
+  pub first : g .sealed b ≡ false → At-rest gl fl wl r (mark-sealed g b) (seal-form g s b)
+
+-- b is marked in the cells, while what waits there still waits
 pub record Marked (gl fl wl : List ℕ) (c : Counts) (b : ℕ) (g : Graph) (s : Form) : Type 0 where
   pub graph : Graphs gl c (mark-sealed g b)
   pub shown : Shown fl wl c (conf [] [] s)

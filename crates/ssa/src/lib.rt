@@ -14,39 +14,13 @@ ghost use Rattle.meaning.specs.Machine.{Task, Conf, conf, turn};
 ghost use Rattle.graph.specs.Seen.{Graph-with, Seen};
 ghost use Rattle.form.specs.Can.{Ex, Cells, Has-def};
 ghost use Rattle.ssa.specs.Run.{Turn-with, Run-with, Under-way, Can-run, Ran};
-ghost use Rattle.ssa.specs.Use.{State-with, At-rest, Can-read, Has-read, Can-fill, Has-filled, Can-seal, Marked};
-ghost use mathlib.Core.List.{_++_};
-ghost use Rattle.lookup.specs.Find.{Begin-with, Can-begin, Can-use, Visits, All-with};
-ghost use Rattle.settle.specs.Settle.{Can-settle, Settled};
-ghost use Rattle.meaning.specs.Machine.{schedule};
-ghost use Rattle.layout.specs.Layout.{Stacks};
+ghost use Rattle.ssa.specs.Use.{State-with, At-rest, Can-read, Has-read, Can-fill, Has-filled, Can-seal, Has-sealed, Marked};
 use entity::Block;
 use entity::Value;
 use entity::Variable;
 use layout::Call;
 use layout::Counts;
 use settle::Finished;
-
-fn use_var_nonlocal(graph: &[u32], form: &mut [u32], work: &mut [u32], c: Counts, var: Variable, ty: u32, block: Block) -> Counts
-   requires { ⌜ All-with (Can-use (now graph) (now form) (now work) c (var .0) ty (block .0)) ⌝ }
-   ensures  { λ r. ⌜ ((g : Graph) → (s : Form) → (ts : List Task) → (rs : List ℕ)
-     → Can-use (now (graph .entry)) (now (form .entry)) (now (work .entry)) c (var .0) ty (block .0) g s ts rs
-     → Visits (now (form .exit)) (now (work .exit)) (c .call) r (var .0) (block .0) g s ts rs) ⌝ }
-{ c }
-
-fn begin_predecessors_lookup(graph: &[u32], work: &mut [u32], c: Counts, sentinel: Value, dest: Block) -> Counts
-    requires { ⌜ Begin-with (Can-begin (now graph) (now work) c (sentinel .0) (dest .0)) ⌝ }
-    ensures { λ r. ⌜ (r .values ≡ c .values) × (r .call ≡ c .call)
-        × ((g : Graph) → (ts : List Task) → (rs : List ℕ) → Can-begin (now (graph .entry)) (now (work .entry)) c (sentinel .0) (dest .0) g ts rs
-        → Stacks (now (work .exit)) r (schedule g (sentinel .0) (dest .0) ts) rs) ⌝ }
-{ c }
-
-fn finish_predecessors_lookup(graph: &[u32], form: &mut [u32], work: &mut [u32], c: Counts, sentinel: Value, dest: Block) -> Finished
-   requires { ⌜ All-with (Can-settle (now graph) (now form) (now work) c (sentinel .0) (dest .0)) ⌝ }
-   ensures  { λ r. ⌜ ((g : Graph) → (s : Form) → (ts : List Task) → (rs : List ℕ)
-     → Can-settle (now (graph .entry)) (now (form .entry)) (now (work .entry)) c (sentinel .0) (dest .0) g s ts rs
-     → Settled (now (form .exit)) (now (work .exit)) (c .call) r (sentinel .0) (dest .0) g s ts rs) ⌝ }
-{ Finished(sentinel, c) }
 
 // The value is the variable's definition in the block.
 pub fn def_var(form: &mut [u32], var: Variable, val: Value, block: Block)
@@ -68,11 +42,11 @@ pub fn use_var(graph: &[u32], form: &mut [u32], work: &mut [u32], c: Counts, var
         return Finished(Value(x - 1), c);
     }
     let ty = graph::variable_type(graph, var);
-    let d = use_var_nonlocal(graph, form, work, c, var, ty, block);
+    let d = lookup::use_var_nonlocal(graph, form, work, c, var, ty, block);
     run_state_machine(graph, form, work, d, var, ty)
 }
 
-// Seals the blocks that are not, by number.
+// Seals the blocks by number; those that are sealed stay as they are.
 pub fn seal_all_blocks(graph: &mut [u32], form: &mut [u32], work: &mut [u32], c: Counts) -> Counts
     requires { ⌜ State-with (At-rest (now graph) (now form) (now work) c) ⌝ }
     ensures { λ r. ⌜ ((g : Graph) → (s : Form) → At-rest (now (graph .entry)) (now (form .entry)) (now (work .entry)) c g s
@@ -83,20 +57,21 @@ pub fn seal_all_blocks(graph: &mut [u32], form: &mut [u32], work: &mut [u32], c:
     let mut d = c;
     let mut b: u32 = 0;
     while b < n {
-        if !graph::is_sealed(graph, Block(b)) {
-            d = seal_one_block(graph, form, work, d, Block(b));
-        }
+        d = seal_one_block(graph, form, work, d, Block(b));
         b += 1;
     }
     d
 }
 
-// Marks the block first: what reads its predecessors meets it as a sealed one.
+// A sealed block stays as it is. Another is marked first, so that what reads its predecessors meets it as a sealed one.
 pub fn seal_one_block(graph: &mut [u32], form: &mut [u32], work: &mut [u32], c: Counts, block: Block) -> Counts
     requires { ⌜ State-with (Can-seal (now graph) (now form) (now work) c (block .0)) ⌝ }
     ensures { λ r. ⌜ ((g : Graph) → (s : Form) → Can-seal (now (graph .entry)) (now (form .entry)) (now (work .entry)) c (block .0) g s
-        → At-rest (now (graph .exit)) (now (form .exit)) (now (work .exit)) r (mark-sealed g (block .0)) (seal-form g s (block .0))) ⌝ }
+        → Has-sealed (now (graph .exit)) (now (form .exit)) (now (work .exit)) r (block .0) g s) ⌝ }
 {
+    if graph::is_sealed(graph, block) {
+        return c;
+    }
     graph::mark_sealed(graph, block);
     settle_pending(graph, form, work, c, block)
 }
@@ -128,7 +103,7 @@ fn predecessors_lookup(graph: &[u32], form: &mut [u32], work: &mut [u32], c: Cou
         → Has-filled (now (form .exit)) (now (work .exit)) (c .call) r (var .0) (sentinel .0) (dest .0) g s) ⌝ }
 {
     let ty = graph::variable_type(graph, var);
-    let d = begin_predecessors_lookup(graph, work, c, sentinel, dest);
+    let d = lookup::begin_predecessors_lookup(graph, work, c, sentinel, dest);
     let f = run_state_machine(graph, form, work, d, var, ty);
     f.1
 }
@@ -167,9 +142,9 @@ fn step(graph: &[u32], form: &mut [u32], work: &mut [u32], c: Counts, var: Varia
     let call = popped.0;
     let d = popped.1;
     match call {
-        Call::UseVar(branch) => use_var_nonlocal(graph, form, work, d, var, ty, Block(branch.0)),
+        Call::UseVar(branch) => lookup::use_var_nonlocal(graph, form, work, d, var, ty, Block(branch.0)),
         Call::FinishPredecessorsLookup(sentinel, dest) => {
-            let f = finish_predecessors_lookup(graph, form, work, d, sentinel, dest);
+            let f = settle::finish_predecessors_lookup(graph, form, work, d, sentinel, dest);
             let val = f.0;
             let e = f.1;
             work::push_result(work, e, val)

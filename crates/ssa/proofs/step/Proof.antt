@@ -14,8 +14,6 @@ use Rattle.ssa.proofs.step.Statement.{statement}
 use Rattle.ssa.proofs.step.Tie as tie
 use Rattle.ssa.proofs.step.Reads as reads
 use Rattle.ssa.proofs.step.Lts as lts
-use Rattle.ssa.proofs.finish_predecessors_lookup.Reads as finish-predecessors-lookup-reads
-use Rattle.ssa.proofs.use_var_nonlocal.Reads as use-var-nonlocal-reads
 use Rattle.work.proofs.pop_call.Reads as pop-call-reads
 use Rattle.work.proofs.push_result.Reads as push-result-reads
 

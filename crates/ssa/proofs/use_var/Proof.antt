@@ -1,3 +1,7 @@
+use lib.ListN.{length, getD, set, length-set}
+use Prim.Native.Nat.{ℕ, zero, suc, _+_, _-_, _*_, _<_, _≤_}
+use mathlib.Core.Path.{_≡_, refl, sym, ap, _∙_, subst}
+use Rattle.ssa.proofs.Uses.{read-seen, var-known, def-can, read-here, use-can, use-run, has-read}
 use borrow.Author.Needs.{needs}
 use native.Mathlib.Omega.{arith}
 use Prim.Native.Nat.{ℕ, _+_, _-_, _*_, _<_, _≤_}
@@ -12,11 +16,10 @@ use Rattle.ssa.proofs.use_var.Lts as lts
 use Rattle.form.proofs.definition.Reads as definition-reads
 use Rattle.graph.proofs.variable_type.Reads as variable-type-reads
 use Rattle.ssa.proofs.run_state_machine.Reads as run-state-machine-reads
-use Rattle.ssa.proofs.use_var_nonlocal.Reads as use-var-nonlocal-reads
 
 -- src/lib.rt:66:9
 definition-requires : tie.Need-definition-requires
-definition-requires c κs = search needs
+definition-requires c κs = let p = c .before .before .before .before .pre in (p .1, def-can (p .2))
 
 -- src/lib.rt:68:31
 sub-t13 : tie.Need-sub-t13
@@ -28,19 +31,19 @@ same-length c = search needs
 
 -- src/lib.rt:68:9
 returns : tie.Need-returns
-returns c = search needs
+returns c = λ g s h. read-here h (c .before .definition .ensures s (def-can h)) (λ e. c .if1 .taken e) _ refl refl
 
 -- src/lib.rt:70:9
 variable-type-requires : tie.Need-variable-type-requires
-variable-type-requires c κs = search needs
+variable-type-requires c κs = let p = c .before .before .before .before .before .before .pre in ((p .0, read-seen (p .2)), var-known (p .2))
 
 -- src/lib.rt:71:9
 use-var-nonlocal-requires : tie.Need-use-var-nonlocal-requires
-use-var-nonlocal-requires c κs = search needs
+use-var-nonlocal-requires c κs = let p = c .before .before .before .before .before .before .before .before .before .pre in (p .0, p .1, [], [], use-can (p .2) (c .before .before .variable-type .ensures))
 
 -- src/lib.rt:72:5
 run-state-machine-requires : tie.Need-run-state-machine-requires
-run-state-machine-requires c κs = search needs
+run-state-machine-requires c κs = let p = c .before .before .before .before .before .before .before .before .before .before .before .before .before .before .before .before .pre in (p .0, _, _, _, use-run (p .2) (c .before .before .before .before .before .before .before .before .before .variable-type .ensures) (c .before .before .before .before .before .before .use-var-nonlocal .ensures))
 
 -- src/lib.rt:61:1
 same-length-2 : tie.Need-same-length-2
@@ -52,7 +55,7 @@ same-length-3 c = search needs
 
 -- src/lib.rt:61:1
 returns-2 : tie.Need-returns-2
-returns-2 c = search needs
+returns-2 c = λ g s h. has-read h (c .before .before .before .before .before .before .before .before .before .before .before .before .before .before .variable-type .ensures) (c .before .before .before .before .before .before .before .before .before .before .before .use-var-nonlocal .ensures) (c .before .before .before .before .run-state-machine .ensures g _ _ _ (use-run h (c .before .before .before .before .before .before .before .before .before .before .before .before .before .before .variable-type .ensures) (c .before .before .before .before .before .before .before .before .before .before .before .use-var-nonlocal .ensures)))
 
 pub use-var-spec : {M : Type 1} → statement M
 use-var-spec =
