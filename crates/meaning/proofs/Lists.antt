@@ -119,6 +119,10 @@ pub snds-append : (l r : List (ℕ × ℕ)) → snds (l ++ r) ≡ snds l ++ snds
 snds-append [] r = refl
 snds-append (q ∷ l) r = ap {B = List ℕ} (λ k. q .1 ∷ k) (snds-append l r)
 
+pub snds-length : (l : List (ℕ × ℕ)) → length (snds l) ≡ length l
+snds-length [] = refl
+snds-length (q ∷ l) = ap suc (snds-length l)
+
 pub in-snds : (w x : ℕ) (l : List (ℕ × ℕ)) → In (w, x) l → In x (snds l)
 in-snds w x (q ∷ l) (inl e) = inl (ap (λ (p : ℕ × ℕ). p .1) e)
 in-snds w x (q ∷ l) (inr i) = inr (in-snds w x l i)

@@ -18,7 +18,7 @@ use Rattle.meaning.specs.Machine.{Conf, conf, schedule, visit, turns}
 use Rattle.meaning.specs.Path.{In}
 use Rattle.meaning.specs.Rooms.{Rooms}
 use Rattle.meaning.proofs.Maps.{put-same, put-other, false-true, some-none, ltb-yes, bool?, and-both, yes-ltb}
-use Rattle.meaning.proofs.Lists.{snds, has-in, in-has, in-cons}
+use Rattle.meaning.proofs.Lists.{snds, snds-length, has-in, in-has, in-cons}
 use Rattle.meaning.proofs.Inv.{pending, Work}
 use Rattle.meaning.proofs.Reading.{Sound}
 use Rattle.meaning.proofs.Sealing.{idle}
@@ -35,10 +35,6 @@ use Rattle.meaning.proofs.Demand.{all-kept}
 
 pub preds-room : (g : Graph) → Sound g → (b : ℕ) → length (g .preds b) ≤ g .blocks
 preds-room g G b = pigeon some (g .blocks) (g .preds b) (G .nodup b) (λ p i. (p, G .range b p i, refl))
-
-snds-length : (l : List (ℕ × ℕ)) → length (snds l) ≡ length l
-snds-length [] = refl
-snds-length (q ∷ l) = ap suc (snds-length l)
 
 -- of one form, where op is at work
 module _ (g : Graph) (op : Work) (k : ℕ) (s : Form) (r : Rest g op k s) where
