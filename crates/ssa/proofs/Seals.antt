@@ -40,10 +40,10 @@ settle-more g b (w ∷ us) ws s = settle-more g b us ws (fill (read (depth g) g 
 abbrev pub settled : ℕ → Graph → Form → ℕ → Form
 settled b g s i = settle-pending (mark-sealed g b) b (take i (s .pending b)) (set-pending b [] s)
 
--- The first i of them are settled. The list has the variables of all n, in order.
-pub record Settling (gl fl wl list : List ℕ) (c : Counts) (b n i : ℕ) (g : Graph) (s : Form) : Type 0 where
+-- The list has the variables of all n, in order, and as many as `left` are left.
+pub record Settling (gl fl wl list : List ℕ) (c : Counts) (b n left : ℕ) (g : Graph) (s : Form) : Type 0 where
   pub graph : Graphs gl c (mark-sealed g b)
-  pub shown : Shown fl wl c (conf [] [] (settled b g s i))
+  pub shown : Shown fl wl c (conf [] [] (settled b g s (n - left)))
   pub steady : Steady g s
   pub known : b < g .blocks
   pub unsealed : g .sealed b ≡ false
@@ -57,59 +57,59 @@ module _ {gl fl wl : List ℕ} {c : Counts} {b : ℕ} {g : Graph} {s : Form} (h 
     few = steady-rooms g s (h .steady) .waits b;
   }
 
-  pub settling-none : {fl₁ list : List ℕ} {n : ℕ} → Taken fl₁ list b n s → Settling gl fl₁ wl list c b n 0 g s
-  settling-none t = record {
-    graph = h .graph;
-    shown = record { form = record { cells = t .cells; next = h .shown .form .next }; work = h .shown .work };
-    steady = h .steady;
-    known = h .known;
-    unsealed = h .unsealed;
-    lists = t .lists;
-  }
+  pub settling-all : {fl₁ list : List ℕ} {n : ℕ} → Taken fl₁ list b n s → Settling gl fl₁ wl list c b n n g s
+  settling-all {fl₁} {list} {n} t =
+      let none : 0 ≡ n - n = omega arith in
+      record {
+        graph = h .graph;
+        shown = subst (λ (i : ℕ). Shown fl₁ wl c (conf [] [] (settled b g s i))) none
+            (record { form = record { cells = t .cells; next = h .shown .form .next }; work = h .shown .work });
+        steady = h .steady;
+        known = h .known;
+        unsealed = h .unsealed;
+        lists = t .lists;
+      }
 
-module _ {gl fl wl list : List ℕ} {c : Counts} {b n i : ℕ} {g : Graph} {s : Form} (h : Settling gl fl wl list c b n i g s) where
-  module _ (lt : i < n) where
+module _ {gl fl wl list : List ℕ} {c : Counts} {b n left : ℕ} {g : Graph} {s : Form} (h : Settling gl fl wl list c b n left g s) where
+  module _ (low : left ≤ n) (more : 0 < left) where
     abbrev w : ℕ × ℕ
-    w = getD (s .pending b) i (0, 0)
+    w = getD (s .pending b) (n - left) (0, 0)
 
     abbrev ws : List (ℕ × ℕ)
-    ws = drop (suc i) (s .pending b)
+    ws = drop (suc (n - left)) (s .pending b)
 
-    within : i < length (s .pending b)
-    within = omega (arith, lt, h .lists .count)
+    within : n - left < length (s .pending b)
+    within = omega (arith, h .lists .count)
 
-    rests : Rest (mark-sealed g b) (put b (w ∷ ws) idle) (suc (length ws)) (settled b g s i)
-    rests = seal-rests g s (h .steady) b (h .known) (h .unsealed) (take i (s .pending b)) ws w (split-at (s .pending b) i (0, 0) within)
+    rests : Rest (mark-sealed g b) (put b (w ∷ ws) idle) (suc (length ws)) (settled b g s (n - left))
+    rests = seal-rests g s (h .steady) b (h .known) (h .unsealed) (take (n - left) (s .pending b)) ws w (split-at (s .pending b) (n - left) (0, 0) within)
 
     sealed-now : mark-sealed g b .sealed b ≡ true
     sealed-now = put-same b true (g .sealed)
 
     -- those before it are settled, and those after it are the last of the block's parameters
-    pub next-param : Next-param fl b (n - i) (getD (s .pending b) i (0, 0) .1) (settled b g s i)
+    pub next-param : Next-param fl b left (getD (s .pending b) (n - left) (0, 0) .1) (settled b g s (n - left))
     next-param = record {
       params = record {
         cells = h .shown .form .cells;
         known = le-trans (h .known) (h .steady .bounds .few);
         few = rooms-of (mark-sealed g b) (sound-then g s (h .steady) b (h .known) (h .unsealed)) (bounds-then g s (h .steady) b (h .known) (h .unsealed))
-            (put b (w ∷ ws) idle) (suc (length ws)) (settled b g s i) rests .params b;
+            (put b (w ∷ ws) idle) (suc (length ws)) (settled b g s (n - left)) rests .params b;
       };
       before = rests .kp b;
       after = snds ws;
-      split = parts (mark-sealed g b) ⊥ (settled b g s i) (rests .kp) (put b (w ∷ ws) idle) (rests .inv) (w .0) b (w .1) ws sealed-now (put-same b (w ∷ ws) idle);
-      count = omega (arith, lt, h .lists .count, snds-length ws, length-drop (suc i) (s .pending b));
+      split = parts (mark-sealed g b) ⊥ (settled b g s (n - left)) (rests .kp) (put b (w ∷ ws) idle) (rests .inv) (w .0) b (w .1) ws sealed-now (put-same b (w ∷ ws) idle);
+      count = omega (arith, h .lists .count, snds-length ws, length-drop (suc (n - left)) (s .pending b));
     }
 
-    module _ {v x : ℕ} (ev : v ≡ getD list i 0) (ex : (y : ℕ) → (t : Form) → Next-param fl b (n - i) y t → x ≡ y) where
-      var-is : v ≡ w .0
-      var-is = ev ∙ h .lists .at i lt ∙ List·getD-map (λ (u : ℕ × ℕ). u .0) (s .pending b) i (0, 0)
-
-      param-is : x ≡ w .1
-      param-is = ex (w .1) (settled b g s i) next-param
-
+    module _ {v x : ℕ} (ev : v ≡ getD list (n - left) 0) (ex : (y : ℕ) → (t : Form) → Next-param fl b left y t → x ≡ y) where
       head-is : w ≡ (v, x)
-      head-is = ap {B = ℕ × ℕ} (λ (y : ℕ). (y, w .1)) (sym var-is) ∙ ap {B = ℕ × ℕ} (λ (y : ℕ). (v, y)) (sym param-is)
+      head-is =
+          let var-is : v ≡ w .0 = ev ∙ h .lists .at (n - left) (omega arith) ∙ List·getD-map (λ (u : ℕ × ℕ). u .0) (s .pending b) (n - left) (0, 0) in
+          let param-is : x ≡ w .1 = ex (w .1) (settled b g s (n - left)) next-param in
+          ap {B = ℕ × ℕ} (λ (y : ℕ). (y, w .1)) (sym var-is) ∙ ap {B = ℕ × ℕ} (λ (y : ℕ). (v, y)) (sym param-is)
 
-      pub fill-can : Can-fill gl fl wl c v x b (mark-sealed g b) (settled b g s i)
+      pub fill-can : Can-fill gl fl wl c v x b (mark-sealed g b) (settled b g s (n - left))
       fill-can = record {
         seen = record {
           cells = h .graph .cells;
@@ -120,20 +120,22 @@ module _ {gl fl wl list : List ℕ} {c : Counts} {b n i : ℕ} {g : Graph} {s : 
         shown = h .shown;
         sealed = sealed-now;
         others = ws;
-        rest = subst (λ (u : ℕ × ℕ). Rest (mark-sealed g b) (put b (u ∷ ws) idle) (suc (length ws)) (settled b g s i)) head-is rests;
+        rest = subst (λ (u : ℕ × ℕ). Rest (mark-sealed g b) (put b (u ∷ ws) idle) (suc (length ws)) (settled b g s (n - left))) head-is rests;
       }
 
-      one-more : fill (read (depth (mark-sealed g b)) (mark-sealed g b) v) (mark-sealed g b) b x (settled b g s i) .1 ≡ settled b g s (i + 1)
+      one-more : fill (read (depth (mark-sealed g b)) (mark-sealed g b) v) (mark-sealed g b) b x (settled b g s (n - left)) .1 ≡ settled b g s (n - (left - 1))
       one-more =
           let g′ = mark-sealed g b in
-          let more : take (i + 1) (s .pending b) ≡ take i (s .pending b) ++ w ∷ [] = ap (λ (k : ℕ). take k (s .pending b)) (add-one i) ∙ take-suc (s .pending b) i (0, 0) within in
-          ap (λ (u : ℕ × ℕ). fill (read (depth g′) g′ (u .0)) g′ b (u .1) (settled b g s i) .1) (sym head-is)
-          ∙ sym (ap (λ (us : List (ℕ × ℕ)). settle-pending g′ b us (set-pending b [] s)) more ∙ settle-more g′ b (take i (s .pending b)) (w ∷ []) (set-pending b [] s))
+          let next : n - (left - 1) ≡ suc (n - left) = omega arith in
+          let one : take (n - (left - 1)) (s .pending b) ≡ take (n - left) (s .pending b) ++ w ∷ [] =
+          ap (λ (k : ℕ). take k (s .pending b)) next ∙ take-suc (s .pending b) (n - left) (0, 0) within in
+          ap (λ (u : ℕ × ℕ). fill (read (depth g′) g′ (u .0)) g′ b (u .1) (settled b g s (n - left)) .1) (sym head-is)
+          ∙ sym (ap (λ (us : List (ℕ × ℕ)). settle-pending g′ b us (set-pending b [] s)) one ∙ settle-more g′ b (take (n - left) (s .pending b)) (w ∷ []) (set-pending b [] s))
 
       pub settling-next : {fl₁ wl₁ : List ℕ} {r : Counts} → ((g : Graph) → (s : Form) → Can-fill gl fl wl c v x b g s → Has-filled fl₁ wl₁ (c .call) r v x b g s)
-          → Settling gl fl₁ wl₁ list r b n (i + 1) g s
+          → Settling gl fl₁ wl₁ list r b n (left - 1) g s
       settling-next {fl₁} {wl₁} {r} F =
-          let f = F (mark-sealed g b) (settled b g s i) fill-can in
+          let f = F (mark-sealed g b) (settled b g s (n - left)) fill-can in
           record {
             graph = record { cells = h .graph .cells; call = f .call ∙ h .graph .call };
             shown = subst (λ (t : Form). Shown fl₁ wl₁ r (conf [] [] t)) one-more (f .shown);
@@ -143,11 +145,11 @@ module _ {gl fl wl list : List ℕ} {c : Counts} {b n i : ℕ} {g : Graph} {s : 
             lists = h .lists;
           }
 
-  pub settling-end : n ≤ i → At-rest gl fl wl c (mark-sealed g b) (seal-form g s b)
+  pub settling-end : left ≤ 0 → At-rest gl fl wl c (mark-sealed g b) (seal-form g s b)
   settling-end done = record {
     graph = h .graph;
     shown =
-        let all : take i (s .pending b) ≡ s .pending b = take-all i (s .pending b) (omega (arith, done, h .lists .count)) in
+        let all : take (n - left) (s .pending b) ≡ s .pending b = take-all (n - left) (s .pending b) (omega (arith, h .lists .count)) in
         subst (λ (us : List (ℕ × ℕ)). Shown fl wl c (conf [] [] (settle-pending (mark-sealed g b) b us (set-pending b [] s)))) all (h .shown);
     steady = steady-seal g s (h .steady) b (h .known) (h .unsealed);
   }

@@ -10,7 +10,7 @@ use Rattle.definition.specs.Form.{Graph, Form}
 use Rattle.definition.specs.Read.{read, depth, fill}
 use Rattle.definition.specs.Session.{mark-sealed, seal-form}
 use Rattle.meaning.specs.Machine.{conf}
-use Rattle.meaning.proofs.Mid.{Rest}
+use Rattle.meaning.proofs.Rest.{Rest}
 use Rattle.meaning.proofs.Sealing.{idle}
 use Rattle.meaning.proofs.Steady.{Steady}
 use Rattle.layout.specs.declared.Counts.{Counts}

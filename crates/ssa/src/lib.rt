@@ -89,7 +89,8 @@ pub fn seal_one_block(
     settle_pending(graph, form, work, c, block)
 }
 
-// Settles the pending variables in the order in which they came to wait: each appends its arguments after those of the ones before it.
+// Settles the pending variables in the order in which they came to wait, as each appends its arguments after those of the ones before it.
+// Settled parameters may have left the block's list, but those of the variables that are left are the last of it.
 fn settle_pending(
     graph: &[u32],
     form: &mut [u32],
@@ -104,13 +105,13 @@ fn settle_pending(
     let mut waiting = [0u32; entity::VARIABLES as usize];
     let n = form::take_pending(form, block, &mut waiting);
     let mut d = c;
-    let mut i: u32 = 0;
-    while i < n {
-        let k = i as usize;
+    let mut left = n;
+    while 0 < left {
+        let k = (n - left) as usize;
         let var = Variable(waiting[k]);
-        let val = form::pending_param(form, block, n - i);
+        let val = form::pending_param(form, block, left);
         d = predecessors_lookup(graph, form, work, d, var, val, block);
-        i += 1;
+        left -= 1;
     }
     d
 }
@@ -153,7 +154,8 @@ fn run_state_machine(
     ty: u32,
 ) -> Finished
     requires { ⌜ Run-with (Can-run (now graph) (now form) (now work) c (var .0) ty) ⌝ }
-    ensures { λ r. ⌜ ((g : Graph) → (k : Conf) → (x : ℕ) → (s : Form) → Can-run (now (graph .entry)) (now (form .entry)) (now (work .entry)) c (var .0) ty g k x s
+    ensures { λ r. ⌜ ((g : Graph) → (k : Conf) → (x : ℕ) → (s : Form)
+        → Can-run (now (graph .entry)) (now (form .entry)) (now (work .entry)) c (var .0) ty g k x s
         → Ran (now (form .exit)) (now (work .exit)) (c .call) r x s) ⌝ }
 {
     let mut d = c;
