@@ -24,7 +24,7 @@ use Rattle.meaning.proofs.Port.{make-room}
 use Rattle.layout.specs.declared.Counts.{Counts}
 use Rattle.graph.specs.Seen.{Graph-with, Seen}
 use Rattle.form.specs.Can.{Cells, Can-make, Can-count, Has-value, Has-def, Can-place}
-use Rattle.kinds.specs.Replies.{Showing, Ready}
+use Rattle.kinds.specs.Replies.{Showing, Some-state}
 
 module _ {gl fl : List ℕ} {c : Counts} {t : State} (h : Showing gl fl c t) where
   pub seen : Seen gl (t .graph)
@@ -69,5 +69,5 @@ module _ {gl fl : List ℕ} {c : Counts} {t : State} (h : Showing gl fl c t) whe
       fresh = h .sure .whole .inv .aliased .fresh (t .form .next) (omega arith);
     }
 
-pub seen-some : {gl fl : List ℕ} {c : Counts} → Ready gl fl c → Graph-with (Seen gl)
+pub seen-some : {gl fl : List ℕ} {c : Counts} → Some-state gl fl c → Graph-with (Seen gl)
 seen-some p = (p .0 .graph, seen (p .1))

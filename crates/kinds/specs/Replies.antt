@@ -47,8 +47,8 @@ pub record Showing (gl fl : List ℕ) (c : Counts) (t : State) : Type 0 where
   pub sure : Sure t
 
 -- what every kind asks: they show some such state
-abbrev pub Ready : List ℕ → List ℕ → Counts → Type 0
-Ready gl fl c = (t : State) × Showing gl fl c t
+abbrev pub Some-state : List ℕ → List ℕ → Counts → Type 0
+Some-state gl fl c = (t : State) × Showing gl fl c t
 
 -- what every kind promises: for each state that the cells gl and fl show, r answers the reply f, and gl′ and fl′ show what it leaves
 abbrev pub Answers : List ℕ → List ℕ → List ℕ → List ℕ → Counts → Reply → (Graph → Form → Defined) → Type 0

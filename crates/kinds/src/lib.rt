@@ -11,7 +11,7 @@ ghost use Rattle.definition.specs.Session.{no-block, no-var, no-branch, declare
 ghost use Rattle.definition.specs.Session.{new-branch, new-dest, add-pred, drop-pred, any-preds, is-sealed};
 ghost use Rattle.definition.specs.Tables.{plus-one};
 ghost use Rattle.graph.specs.Seen.{Graph-with, Seen};
-ghost use Rattle.kinds.specs.Replies.{Ready, Answers, refusal, acceptance};
+ghost use Rattle.kinds.specs.Replies.{Some-state, Answers, refusal, acceptance};
 use entity::Block;
 use entity::Branch;
 use entity::Type;
@@ -97,7 +97,7 @@ pub fn no_branch(graph: &[u32], p: u32) -> bool
 
 // Kind 1. Block 0 is the entry, so it is placed at once; a block that is there stays as it is.
 pub fn declare_block(graph: &mut [u32], form: &mut [u32], c: Counts, x: u32) -> Reply
-    requires { ⌜ Ready (now graph) (now form) c ⌝ }
+    requires { ⌜ Some-state (now graph) (now form) c ⌝ }
     ensures { λ r. ⌜ Answers (now (graph .entry)) (now (form .entry)) (now (graph .exit)) (now (form .exit)) c r (λ g s. declare-block g s x) ⌝ }
 {
     if entity::BLOCKS <= x {
@@ -120,7 +120,7 @@ pub fn declare_block(graph: &mut [u32], form: &mut [u32], c: Counts, x: u32) -> 
 
 // Kind 2. A variable that is there may be declared again with its own type.
 pub fn declare_var(graph: &mut [u32], c: Counts, x: u32, y: u32) -> Reply
-    requires { ⌜ ((form : List ℕ) × Ready (now graph) form c) ⌝ }
+    requires { ⌜ ((form : List ℕ) × Some-state (now graph) form c) ⌝ }
     ensures { λ r. ⌜ ((form : List ℕ) → Answers (now (graph .entry)) form (now (graph .exit)) form c r (λ g s. declare-var g s x y)) ⌝ }
 {
     if entity::VARIABLES <= x {
@@ -145,7 +145,7 @@ pub fn declare_var(graph: &mut [u32], c: Counts, x: u32, y: u32) -> Reply
 
 // Kind 3. A block's first value places it; after its branch a block takes no more.
 pub fn make_value(graph: &[u32], form: &mut [u32], c: Counts, x: u32, y: u32) -> Reply
-    requires { ⌜ Ready (now graph) (now form) c ⌝ }
+    requires { ⌜ Some-state (now graph) (now form) c ⌝ }
     ensures { λ r. ⌜ Answers (now (graph .entry)) (now (form .entry)) (now (graph .entry)) (now (form .exit)) c r (λ g s. make-value g s x y) ⌝ }
 {
     if no_block(graph, x) {
@@ -168,7 +168,7 @@ pub fn make_value(graph: &[u32], form: &mut [u32], c: Counts, x: u32, y: u32) ->
 
 // Kind 4. The value is stored as it is, an alias too.
 pub fn define(graph: &[u32], form: &mut [u32], c: Counts, x: u32, y: u32, z: u32) -> Reply
-    requires { ⌜ Ready (now graph) (now form) c ⌝ }
+    requires { ⌜ Some-state (now graph) (now form) c ⌝ }
     ensures { λ r. ⌜ Answers (now (graph .entry)) (now (form .entry)) (now (graph .entry)) (now (form .exit)) c r (λ g s. define g s x y z) ⌝ }
 {
     if no_var(graph, x) {
@@ -189,7 +189,7 @@ pub fn define(graph: &[u32], form: &mut [u32], c: Counts, x: u32, y: u32, z: u32
 
 // Kind 5. The value comes from an earlier call: w is that use's answer plus one, 0 where the call was no accepted use.
 pub fn define_answer(graph: &[u32], form: &mut [u32], c: Counts, x: u32, z: u32, w: u32) -> Reply
-    requires { ⌜ Ready (now graph) (now form) c ⌝ }
+    requires { ⌜ Some-state (now graph) (now form) c ⌝ }
     ensures { λ r. ⌜ ((o : Option ℕ) → w ≡ plus-one o
         → Answers (now (graph .entry)) (now (form .entry)) (now (graph .entry)) (now (form .exit)) c r (λ g s. define-answer g s x z o)) ⌝ }
 {
@@ -201,7 +201,7 @@ pub fn define_answer(graph: &[u32], form: &mut [u32], c: Counts, x: u32, z: u32,
 
 // Kind 7. A branch places its block, which may have no value.
 pub fn new_branch(graph: &mut [u32], form: &mut [u32], c: Counts, x: u32) -> Reply
-    requires { ⌜ Ready (now graph) (now form) c ⌝ }
+    requires { ⌜ Some-state (now graph) (now form) c ⌝ }
     ensures { λ r. ⌜ Answers (now (graph .entry)) (now (form .entry)) (now (graph .exit)) (now (form .exit)) c r (λ g s. new-branch g s x) ⌝ }
 {
     if no_block(graph, x) {
@@ -217,7 +217,7 @@ pub fn new_branch(graph: &mut [u32], form: &mut [u32], c: Counts, x: u32) -> Rep
 
 // Kind 8. A branch that is declared somewhere keeps its destinations: its arguments stand at their places.
 pub fn new_dest(graph: &mut [u32], c: Counts, x: u32, y: u32) -> Reply
-    requires { ⌜ ((form : List ℕ) × Ready (now graph) form c) ⌝ }
+    requires { ⌜ ((form : List ℕ) × Some-state (now graph) form c) ⌝ }
     ensures { λ r. ⌜ ((form : List ℕ) → Answers (now (graph .entry)) form (now (graph .exit)) form c r (λ g s. new-dest g s x y)) ⌝ }
 {
     if no_branch(graph, x) {
@@ -240,7 +240,7 @@ pub fn new_dest(graph: &mut [u32], c: Counts, x: u32, y: u32) -> Reply
 
 // Kind 9. A branch that names a block several times is one predecessor of it, so it is declared there once.
 pub fn add_pred(graph: &mut [u32], c: Counts, x: u32, y: u32) -> Reply
-    requires { ⌜ ((form : List ℕ) × Ready (now graph) form c) ⌝ }
+    requires { ⌜ ((form : List ℕ) × Some-state (now graph) form c) ⌝ }
     ensures { λ r. ⌜ ((form : List ℕ) → Answers (now (graph .entry)) form (now (graph .exit)) form c r (λ g s. add-pred g s x y)) ⌝ }
 {
     if no_block(graph, x) {
@@ -265,7 +265,7 @@ pub fn add_pred(graph: &mut [u32], c: Counts, x: u32, y: u32) -> Reply
 
 // Kind 10. The answer is the place that the last predecessor takes over.
 pub fn drop_pred(graph: &mut [u32], c: Counts, x: u32, y: u32) -> Reply
-    requires { ⌜ ((form : List ℕ) × Ready (now graph) form c) ⌝ }
+    requires { ⌜ ((form : List ℕ) × Some-state (now graph) form c) ⌝ }
     ensures { λ r. ⌜ ((form : List ℕ) → Answers (now (graph .entry)) form (now (graph .exit)) form c r (λ g s. drop-pred g s x y)) ⌝ }
 {
     if no_block(graph, x) {
@@ -286,7 +286,7 @@ pub fn drop_pred(graph: &mut [u32], c: Counts, x: u32, y: u32) -> Reply
 
 // Kind 13. An unknown block is refused, where the original says no.
 pub fn has_any_predecessors(graph: &[u32], c: Counts, x: u32) -> Reply
-    requires { ⌜ ((form : List ℕ) × Ready (now graph) form c) ⌝ }
+    requires { ⌜ ((form : List ℕ) × Some-state (now graph) form c) ⌝ }
     ensures { λ r. ⌜ ((form : List ℕ) → Answers (now (graph .entry)) form (now (graph .entry)) form c r (λ g s. any-preds g s x)) ⌝ }
 {
     if no_block(graph, x) {
@@ -300,7 +300,7 @@ pub fn has_any_predecessors(graph: &[u32], c: Counts, x: u32) -> Reply
 
 // Kind 14. An unknown block is refused, where the original says no.
 pub fn is_sealed(graph: &[u32], c: Counts, x: u32) -> Reply
-    requires { ⌜ ((form : List ℕ) × Ready (now graph) form c) ⌝ }
+    requires { ⌜ ((form : List ℕ) × Some-state (now graph) form c) ⌝ }
     ensures { λ r. ⌜ ((form : List ℕ) → Answers (now (graph .entry)) form (now (graph .entry)) form c r (λ g s. is-sealed g s x)) ⌝ }
 {
     if no_block(graph, x) {
