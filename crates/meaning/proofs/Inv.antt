@@ -108,7 +108,8 @@ pub record Aliased (info : ℕ → Info) (target : ℕ → ℕ) (next : ℕ) : T
   pub roots : (x : ℕ) → (info x .sort ≡ param → ⊥) → target x ≡ x
 
 -- one more value
-pub aliased-more : {info : ℕ → Info} {target : ℕ → ℕ} {next : ℕ} → Aliased info target next → (new : Info) → Aliased (put next new info) target (suc next)
+pub aliased-more : {info : ℕ → Info} {target : ℕ → ℕ} {next : ℕ} → Aliased info target next → (new : Info)
+    → Aliased (put next new info) target (suc next)
 aliased-more {info} {target} {next} h new = record {
   tree = tree-suc target next (h .tree);
   fresh = λ x l. h .fresh x (omega arith);
