@@ -11,7 +11,7 @@ use native.Mathlib.Nat.{not-suc-le-zero}
 use Rattle.definition.specs.Base.{upFrom}
 use Rattle.definition.specs.Form.{Form, Graph}
 use Rattle.definition.specs.Read.{follow, resolve}
-use Rattle.definition.specs.Resolve.{Ends, here, on, ends, targets}
+use Rattle.definition.specs.Resolve.{Ends, here, on, targets}
 use Rattle.meaning.specs.Machine.{Conf}
 use Rattle.meaning.proofs.Alias.{Tree, root-is}
 use Rattle.meaning.proofs.Inv.{Work}

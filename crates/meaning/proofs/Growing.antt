@@ -1,7 +1,7 @@
 -- A new parameter keeps the invariant: it is an entry that was not there, and waits or is at work until it is settled. Assumes nothing.
 use Prim.Native.Nat.{ℕ, _<_, suc}
 use mathlib.Core.Path.{_≡_, refl, sym, ap, _∙_}
-use mathlib.Core.Logic.{⊎-map, _≢_, _⊎_, inl, inr}
+use mathlib.Core.Logic.{⊎-map, _≢_, inl, inr}
 use mathlib.Core.Bool.{cond}
 use mathlib.Core.Option.{Option, none, some}
 use mathlib.Core.List.{List, [], _∷_, _++_, append-assoc}
@@ -10,10 +10,10 @@ use native.Mathlib.Omega.{arith}
 use Rattle.definition.specs.Read.{new-param, resolve, type-of}
 use Rattle.definition.specs.Form.{with-pending, Graph, Form, Info, param}
 use Rattle.meaning.specs.Path.{In}
-use Rattle.meaning.proofs.Maps.{same?, put-same, put-other, put-at, some-inj, put₂-at, put₂-other, here?, some-none}
-use Rattle.meaning.proofs.Alias.{tree-suc, follow-more}
+use Rattle.meaning.proofs.Maps.{same?, put-same, put-other, put-at, put₂-at, put₂-other, here?, some-none, put₂-is}
+use Rattle.meaning.proofs.Alias.{follow-more}
 use Rattle.meaning.proofs.Lists.{in-cases, nodup-snoc, snds, snds-append, in-one, in-right, in-left}
-use Rattle.meaning.proofs.Inv.{Grow, pending, Param, Inv, edge-grow, nought-grow, pending-par, kept-root, param-grow, Work}
+use Rattle.meaning.proofs.Inv.{Grow, pending, Param, Inv, edge-grow, nought-grow, pending-par, kept-root, param-grow, Work, aliased-more}
 
 -- the form with a new parameter for v on c, where ws waits
 abbrev pub grown : Graph → Form → ℕ → ℕ → Work → Form
@@ -49,13 +49,6 @@ module _ (g : Graph) (E : Type 0) (s : Form) (kp : ℕ → List ℕ) (op op′ :
     more = omega arith;
   }
 
-  -- an entry is the new one or an old one
-  entry-is : (w b e : ℕ) → now .entry w b ≡ some e → ((w ≡ v) × (b ≡ c) × (e ≡ x)) ⊎ (s .entry w b ≡ some e)
-  entry-is w b e q = elim (here? w v b c) [
-    | inl k ↦ inl (k .0, k .1, some-inj (sym q ∙ put₂-at v c (some x) (s .entry) w b (k .0) (k .1)))
-    | inr n ↦ inr (sym (put₂-other v c (some x) (s .entry) w b n) ∙ q)
-  ]
-
   old-par : (b y : ℕ) → Param s b y → Param now b y
   old-par b y r = param-grow s now b y grown-grow (r .root) r
 
@@ -83,12 +76,12 @@ module _ (g : Graph) (E : Type 0) (s : Form) (kp : ℕ → List ℕ) (op op′ :
 
   pub grown-inv : Inv g E (grown g s v c ws) kp op′
   grown-inv = record {
-    known = λ w b e q. elim (entry-is w b e q) [ inl k ↦ (rw (k .0) lv, rw (k .1) lc) | inr o ↦ h .known w b e o ];
-    edge = λ ok w b e q. elim (entry-is w b e q) [
+    known = λ w b e q. elim (put₂-is v c x (s .entry) w b e q) [ inl k ↦ (rw (k .0) lv, rw (k .1) lc) | inr o ↦ h .known w b e o ];
+    edge = λ ok w b e q. elim (put₂-is v c x (s .entry) w b e q) [
       | inl k ↦ inl (also w b e k)
       | inr o ↦ ⊎-map (still w b e) (edge-grow g s now kp kp grown-grow w b e (λ i. (kept-root g E s kp op h b e i, i, λ _ _ _ _ _ _ a. a))) (h .edge ok w b e o)
     ];
-    first = λ ok w b e q empty. elim (entry-is w b e q) [
+    first = λ ok w b e q empty. elim (put₂-is v c x (s .entry) w b e q) [
       | inl k ↦ inl (also w b e k)
       | inr o ↦ ⊎-map (still w b e) (nought-grow s now (type-of g w) b e grown-grow (now-res e)) (h .first ok w b e o empty)
     ];
@@ -123,12 +116,5 @@ module _ (g : Graph) (E : Type 0) (s : Form) (kp : ℕ → List ℕ) (op op′ :
       bare = h .listed .bare;
     };
     passed = h .passed;
-    aliased = record {
-      tree = tree-suc (s .target) (s .next) (h .aliased .tree);
-      fresh = λ y l. h .aliased .fresh y (omega arith);
-      roots = λ y n. elim (same? y (s .next)) [
-        | inl e ↦ h .aliased .fresh y (omega arith)
-        | inr d ↦ h .aliased .roots y (λ q. n (ap (λ (j : Info). j .sort) (put-other (s .next) new (s .info) y d) ∙ q))
-      ];
-    };
+    aliased = aliased-more (h .aliased) new;
   }

@@ -14,7 +14,7 @@ use Rattle.definition.specs.Form.{Graph, Form, Info, Sort, param, nought, def}
 use Rattle.definition.specs.Read.{resolve, type-of, mark-one, make, alias}
 use Rattle.meaning.specs.Path.{In}
 use Rattle.meaning.specs.Stored.{Nodup}
-use Rattle.meaning.proofs.Maps.{same?, put-same, put-other, put-at, some-inj, put₂-at, put₂-other, here?}
+use Rattle.meaning.proofs.Maps.{same?, put-same, put-other, put-at, put₂-at, put₂-other, here?, put₂-is}
 use Rattle.meaning.proofs.Facts.{arg-of, Edge, same, kept}
 use Rattle.meaning.proofs.Alias.{Tree, tree-suc, tree-alias, follow-more, follow-root, follow-keep, follow-move, follow-same}
 use Rattle.meaning.proofs.Lists.{in-left, in-right, nodup-apart, without-in, without-mid, nodup-without, snds, or-mono, in-one, in-snds}
@@ -107,6 +107,18 @@ pub record Aliased (info : ℕ → Info) (target : ℕ → ℕ) (next : ℕ) : T
   pub fresh : (x : ℕ) → next ≤ x → target x ≡ x
   pub roots : (x : ℕ) → (info x .sort ≡ param → ⊥) → target x ≡ x
 
+-- one more value
+pub aliased-more : {info : ℕ → Info} {target : ℕ → ℕ} {next : ℕ} → Aliased info target next → (new : Info)
+    → Aliased (put next new info) target (suc next)
+aliased-more {info} {target} {next} h new = record {
+  tree = tree-suc target next (h .tree);
+  fresh = λ x l. h .fresh x (omega arith);
+  roots = λ x n. elim (same? x next) [
+    | inl e ↦ h .fresh x (omega arith)
+    | inr d ↦ h .roots x (λ q. n (rw (put-other next new info x d) q))
+  ];
+}
+
 -- E: what the clauses about edges suppose
 pub record Inv (g : Graph) (E : Type 0) (s : Form) (kp : ℕ → List ℕ) (op : Work) : Type 0 where
   pub known : (w b e : ℕ) → s .entry w b ≡ some e → (w < length (g .types)) × (b < g .blocks)
@@ -163,17 +175,10 @@ module _ (g : Graph) (E : Type 0) (s : Form) (kp : ℕ → List ℕ) (op : Work)
       more = omega arith;
     }
 
-    -- an entry is the new one or an old one
-    entry-is : (w c e : ℕ) → s₁ .entry w c ≡ some e → ((w ≡ v) × (c ≡ b) × (e ≡ x)) ⊎ (s .entry w c ≡ some e)
-    entry-is w c e q = elim (here? w v c b) [
-      | inl k ↦ inl (k .0, k .1, some-inj (sym q ∙ put₂-at v b (some x) (s .entry) w c (k .0) (k .1)))
-      | inr n ↦ inr (sym (put₂-other v b (some x) (s .entry) w c n) ∙ q)
-    ]
-
     pub mark-inv : Inv g E (mark-one v x b s) kp op
     mark-inv = record {
-      known = λ w c e q. elim (entry-is w c e q) [ inl k ↦ (rw (k .0) lv, rw (k .1) lb) | inr o ↦ h .known w c e o ];
-      edge = λ ok w c e q. elim (entry-is w c e q) [
+      known = λ w c e q. elim (put₂-is v b x (s .entry) w c e q) [ inl k ↦ (rw (k .0) lv, rw (k .1) lb) | inr o ↦ h .known w c e o ];
+      edge = λ ok w c e q. elim (put₂-is v b x (s .entry) w c e q) [
         | inl k ↦ inr (rw (k .0, k .1, k .2) (same seal (λ r i. (
           x,
           rw (in-one r p (rw one at i)) (def-grow s s₁ mark-grow v p x has-it),
@@ -181,7 +186,7 @@ module _ (g : Graph) (E : Type 0) (s : Form) (kp : ℕ → List ℕ) (op : Work)
         ))))
         | inr o ↦ ⊎-map (λ i. i) (edge-grow g s s₁ kp kp mark-grow w c e (λ i. (kept-root c e i, i, λ _ _ _ _ _ _ a. a))) (h .edge ok w c e o)
       ];
-      first = λ ok w c e q empty. elim (entry-is w c e q) [
+      first = λ ok w c e q empty. elim (put₂-is v b x (s .entry) w c e q) [
         | inl k ↦ absurd (subst (λ (l : List ℕ). In p l) (sym (ap (g .preds) (k .1) ∙ one) ∙ empty) (inl refl))
         | inr o ↦ h .first ok w c e o empty
       ];
@@ -217,14 +222,7 @@ module _ (g : Graph) (E : Type 0) (s : Form) (kp : ℕ → List ℕ) (op : Work)
           (q .0, ap (λ (j : Info). j .type) (make-grow .info y (h .listed .pars c y (pending-par w c y i) .below)) ∙ q .1);
       listed = record { split = h .listed .split; pars = λ c y i. let r = h .listed .pars c y i in param-grow s s₂ c y make-grow (r .root) r; nodup = h .listed .nodup; bare = h .listed .bare };
       passed = h .passed;
-      aliased = record {
-        tree = tree-suc (s .target) (s .next) (h .aliased .tree);
-        fresh = λ x l. h .aliased .fresh x (omega arith);
-        roots = λ x n. elim (same? x (s .next)) [
-          | inl e ↦ h .aliased .fresh x (omega arith)
-          | inr d ↦ h .aliased .roots x (λ q. n (ap (λ (j : Info). j .sort) (put-other (s .next) (record { sort = k; type = ty; home = b }) (s .info) x d) ∙ q))
-        ];
-      };
+      aliased = aliased-more (h .aliased) (record { sort = k; type = ty; home = b });
     }
 
   -- where the parameter x of b is the first that is at work there, and then ws are

@@ -101,6 +101,14 @@ some-inj e = Option·some-injective _ _ e
 pub some-none : {o : Option ℕ} {a : ℕ} → o ≡ some a → o ≡ none → ⊥
 some-none {o} {a} p q = Option·none-ne-some a (sym q ∙ p)
 
+-- an entry of the changed map is the new one or an old one
+pub put₂-is : (k l x : ℕ) (f : ℕ → ℕ → Option ℕ) (i j e : ℕ) → put₂ k l (some x) f i j ≡ some e
+    → ((i ≡ k) × (j ≡ l) × (e ≡ x)) ⊎ (f i j ≡ some e)
+put₂-is k l x f i j e q = elim (here? i k j l) [
+  | inl h ↦ inl (h .0, h .1, some-inj (sym q ∙ put₂-at k l (some x) f i j (h .0) (h .1)))
+  | inr n ↦ inr (sym (put₂-other k l (some x) f i j n) ∙ q)
+]
+
 pub or-none : (a b : Option ℕ) → orElse a b ≡ none → (a ≡ none) × (b ≡ none)
 or-none (some x) b e = absurd (some-none refl e)
 or-none none b e = (refl, e)

@@ -19,7 +19,7 @@ use Rattle.meaning.specs.Path.{In}
 use Rattle.meaning.specs.Stored.{Nodup}
 use Rattle.meaning.proofs.Causing.{Caused, new-caused, entered-caused, wider-caused, aliased-caused}
 use Rattle.meaning.proofs.Growing.{grown}
-use Rattle.meaning.proofs.Maps.{same?, put-same, put-other, put-at, some-inj, put₂-at, put₂-other, here?, false-true}
+use Rattle.meaning.proofs.Maps.{same?, put-same, put-other, put-at, put₂-at, false-true, put₂-is}
 use Rattle.meaning.proofs.Lists.{nodup-snoc, in-cases, without-in, has-in, in-one, map-in}
 use Rattle.meaning.proofs.Inv.{Grow, Param, nought-param, Work}
 
@@ -99,9 +99,9 @@ mark-is v x (b ∷ bs) s = ap (mark-one v x b) (mark-is v x bs s)
 
 mark-only : (v x : ℕ) (bs : List ℕ) (s : Form) (w b e : ℕ) → mark v x bs s .entry w b ≡ some e → (s .entry w b ≡ some e) ⊎ (e ≡ x)
 mark-only v x [] s w b e q = inl q
-mark-only v x (c ∷ bs) s w b e q = elim (here? w v b c) [
-  | inl k ↦ inr (some-inj (sym q ∙ put₂-at v c (some x) (mark v x bs s .entry) w b (k .0) (k .1)))
-  | inr n ↦ mark-only v x bs s w b e (sym (put₂-other v c (some x) (mark v x bs s .entry) w b n) ∙ q)
+mark-only v x (c ∷ bs) s w b e q = elim (put₂-is v c x (mark v x bs s .entry) w b e q) [
+  | inl k ↦ inr (k .2)
+  | inr o ↦ mark-only v x bs s w b e o
 ]
 
 -- a block more is placed, unless it was
@@ -191,9 +191,9 @@ module _ (g : Graph) (s : Form) (h : Ranged g s) where
     valued = h .valued;
     recorded = record {
       entries = h .recorded .entries;
-      owns = λ w c e q. elim (here? w v c b) [
-        | inl k ↦ (rw (k .0) lv, rw (k .1) lb, rw (some-inj (sym (put₂-at v b (some x) (s .own) w c (k .0) (k .1)) ∙ q)) at lx)
-        | inr n ↦ h .recorded .owns w c e (sym (put₂-other v b (some x) (s .own) w c n) ∙ q)
+      owns = λ w c e q. elim (put₂-is v b x (s .own) w c e q) [
+        | inl k ↦ (rw (k .0) lv, rw (k .1) lb, rw (k .2) lx)
+        | inr o ↦ h .recorded .owns w c e o
       ];
       passed = h .recorded .passed;
     };
@@ -222,10 +222,7 @@ module _ (g : Graph) (s : Form) (h : Ranged g s) where
   grown-ranged v c ws lv lc ty fresh up quiet = record {
     valued = valued-more new lc ty (s .target) (closed-more fresh);
     recorded = record {
-      entries = λ w b e q. elim (here? w v b c) [
-        | inl k ↦ rw (some-inj (sym q ∙ put₂-at v c (some (s .next)) (s .entry) w b (k .0) (k .1))) (omega arith)
-        | inr n ↦ more .entries w b e (sym (put₂-other v c (some (s .next)) (s .entry) w b n) ∙ q)
-      ];
+      entries = λ w b e q. elim (put₂-is v c (s .next) (s .entry) w b e q) [ inl k ↦ rw (k .2) (omega arith) | inr o ↦ more .entries w b e o ];
       owns = more .owns;
       passed = more .passed;
     };

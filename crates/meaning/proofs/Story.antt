@@ -50,7 +50,7 @@ tells-mono s s′ h b f f′ ms u (gives v x ∷ r) k = tells-mono s s′ h b (p
 tells-mono s s′ h b f f′ ms u (uses v x ∷ r) k = ((k .0 .0, u v (k .0 .0) (k .0 .1), h .res x (k .0 .0) (k .0 .2)), tells-mono s s′ h b f f′ ms u r (k .1))
 
 -- ms and what some acts make
-abbrev made-by : List ℕ → List Act → List ℕ
+abbrev pub made-by : List ℕ → List Act → List ℕ
 made-by ms [] = ms
 made-by ms (makes x ∷ r) = made-by (x ∷ ms) r
 made-by ms (gives v x ∷ r) = made-by ms r

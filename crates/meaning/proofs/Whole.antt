@@ -11,8 +11,8 @@ use native.Mathlib.Omega.{arith}
 use native.Mathlib.Nat.{le-trans}
 use Rattle.entity.specs.Types.{type-count}
 use Rattle.entity.specs.Limits.{limits}
-use Rattle.definition.specs.Base.{put, put₂, orElse, has, any, upFrom}
-use Rattle.definition.specs.Form.{Graph, Form, Info, made, param, def, with-makes, with-preds, with-blocks, graph}
+use Rattle.definition.specs.Base.{put, orElse, has, any, upFrom}
+use Rattle.definition.specs.Form.{Graph, Form, Info, made, param, with-makes, with-preds, with-blocks, graph}
 use Rattle.definition.specs.Read.{type-of, write, make, place-block, read, depth}
 use Rattle.definition.specs.Session.{Call, Done, Reply, no, ok, refuse_when_else_, declared-anywhere, no-block, no-var, no-value, no-branch, declare-block}
 use Rattle.definition.specs.Session.{declare-var, make-value, define, use-var, new-branch, new-dest, add-pred, drop-pred, swap-out, but-last, last, seal}
@@ -25,9 +25,9 @@ use Rattle.meaning.proofs.Facts.{cur}
 use Rattle.meaning.proofs.Lists.{nodup-snoc, in-left, in-right, in-cases, has-in, in-has, map-in, in-one, put-in}
 use Rattle.meaning.proofs.Inv.{Grow, grow-refl, grow-trans, Inv, make-inv, make-grow}
 use Rattle.meaning.proofs.Settle.{relog-inv}
-use Rattle.meaning.proofs.Reading.{Sound, Read, reads}
+use Rattle.meaning.proofs.Reading.{Sound, reads}
 use Rattle.meaning.proofs.Sealing.{idle, shallow, sealed-one}
-use Rattle.meaning.proofs.Story.{Tells, Keeps, keeps, tells-mono, cur-or, cur-append, acts-append, tells-append, made-below}
+use Rattle.meaning.proofs.Story.{Tells, Keeps, keeps, tells-mono, cur-or, cur-append, acts-append, tells-append, made-below, made-by}
 use Rattle.meaning.proofs.Graphs.{wider-inv, aimed-inv, joined-inv, write-inv}
 
 pub record Whole (E : Type 0) (g : Graph) (s : Form) (ds : List Done) : Type 0 where
@@ -226,41 +226,38 @@ module _ (E : Type 0) (g : Graph) (s : Form) (ds : List Done) (h : Whole E g s d
       let r = sealed-one g E s (h .kp) (h .inv) b e (h .sound) in
       silent E g s ds h _ (q _) (mark-sealed g b) (seal-form g s b) (r .kp) (r .inv) (h .sound) (λ c p i. inl i) (r .grow)
 
-  -- a call that is an act of one block
-  spoken : (n : ℕ) (s′ : Form) (kp′ : ℕ → List ℕ) → Inv g E s′ kp′ idle
-      → ((b v : ℕ) → s′ .own v b ≡ cur (λ w. none) (acts b ds ++ act b (said n)) v)
-      → ((b : ℕ) → Tells s′ b (λ v. s′ .entry v b) [] (acts b ds ++ act b (said n))) → Fine (ok n g s′)
-  spoken n s′ kp′ i own tells = record {
-    kp = kp′;
-    inv = i;
-    sound = h .sound;
-    hist = λ b p j. let k = h .hist b p j in (k .0, in-left (k .0) ds (said n ∷ []) (k .1), k .2);
-    own = λ b v. own b v ∙ ap (λ (l : List Act). cur (λ w. none) l v) (sym (acts-snoc b ds (said n)));
-    tells = λ b. subst (λ (l : List Act). Tells s′ b (λ v. s′ .entry v b) [] l) (sym (acts-snoc b ds (said n))) (tells b);
-  }
+  -- a call that is the act a of block x, and of no other
+  module _ (n x : ℕ) (a : Act) (is : (b : ℕ) → act b (said n) ≡ if-so (eqb x b) a) (s′ : Form) (kp′ : ℕ → List ℕ)
+      (i : Inv g E s′ kp′ idle)
+      (k : Keeps s s′) (entries : (b v e : ℕ) → s .entry v b ≡ some e → s′ .entry v b ≡ some e) where
+    acts-now : (b : ℕ) → acts b (ds ++ said n ∷ []) ≡ acts b ds ++ if-so (eqb x b) a
+    acts-now b = acts-snoc b ds (said n) ∙ ap (λ (l : List Act). acts b ds ++ l) (is b)
 
-  -- the act of block x, and none of others
-  module _ (n x : ℕ) (a : Act) (is : (b : ℕ) → act b (said n) ≡ if-so (eqb x b) a) where
-    act-here : (b : ℕ) → x ≡ b → act b (said n) ≡ a ∷ []
-    act-here b e = is b ∙ ap (λ (z : Bool). if-so z a) (ap (λ (k : ℕ). eqb k b) e ∙ eqb-same b)
+    acts-here : acts x (ds ++ said n ∷ []) ≡ acts x ds ++ a ∷ []
+    acts-here = acts-now x ∙ rw (eqb-same x) refl
 
-    act-else : (b : ℕ) → x ≢ b → act b (said n) ≡ []
-    act-else b d = is b ∙ ap (λ (z : Bool). if-so z a) (eqb-diff x b d)
+    acts-else : (b : ℕ) → b ≢ x → acts b (ds ++ said n ∷ []) ≡ acts b ds
+    acts-else b d = acts-now b ∙ rw (eqb-diff x b (λ e. d (sym e))) (append-nil (acts b ds))
 
-    cur-here : (b v : ℕ) → x ≡ b → cur (λ w. none) (acts b ds ++ act b (said n)) v ≡ cur (cur (λ w. none) (acts b ds)) (a ∷ []) v
-    cur-here b v e = ap (λ (l : List Act). cur (λ w. none) (acts b ds ++ l) v) (act-here b e) ∙ ap (λ (f : ℕ → Option ℕ). f v) (cur-append (λ w. none) (acts b ds) (a ∷ []))
+    still : (b : ℕ) → Tells s′ b (λ v. s′ .entry v b) [] (acts b ds)
+    still b = tells-mono s s′ k b (λ v. s .entry v b) (λ v. s′ .entry v b) [] (entries b) (acts b ds) (h .tells b)
 
-    cur-else : (b v : ℕ) → x ≢ b → cur (λ w. none) (acts b ds ++ act b (said n)) v ≡ cur (λ w. none) (acts b ds) v
-    cur-else b v d = ap (λ (l : List Act). cur (λ w. none) (acts b ds ++ l) v) (act-else b d) ∙ ap (λ (l : List Act). cur (λ w. none) l v) (append-nil (acts b ds))
-
-    tells-else : (s′ : Form) → Keeps s s′ → (b : ℕ) → ((v e : ℕ) → s .entry v b ≡ some e → s′ .entry v b ≡ some e) → x ≢ b
-        → Tells s′ b (λ v. s′ .entry v b) [] (acts b ds ++ act b (said n))
-    tells-else s′ k b u d = subst (λ (l : List Act). Tells s′ b (λ v. s′ .entry v b) [] l) (sym (ap (λ (l : List Act). acts b ds ++ l) (act-else b d) ∙ append-nil (acts b ds)))
-        (tells-mono s s′ k b (λ v. s .entry v b) (λ v. s′ .entry v b) [] u (acts b ds) (h .tells b))
-
-    tells-here : (s′ : Form) (b : ℕ) → x ≡ b → Tells s′ b (λ v. s′ .entry v b) [] (acts b ds ++ a ∷ [])
-        → Tells s′ b (λ v. s′ .entry v b) [] (acts b ds ++ act b (said n))
-    tells-here s′ b e t = subst (λ (l : List Act). Tells s′ b (λ v. s′ .entry v b) [] (acts b ds ++ l)) (sym (act-here b e)) t
+    spoken : ((v : ℕ) → s′ .own v x ≡ cur (cur (λ w. none) (acts x ds)) (a ∷ []) v) → ((b v : ℕ) → b ≢ x → s′ .own v b ≡ s .own v b)
+        → Tells s′ x (cur (λ v. s′ .entry v x) (acts x ds)) (made-by [] (acts x ds)) (a ∷ []) → Fine (ok n g s′)
+    spoken here other tell = record {
+      kp = kp′;
+      inv = i;
+      sound = h .sound;
+      hist = λ b p j. let k = h .hist b p j in (k .0, in-left (k .0) ds (said n ∷ []) (k .1), k .2);
+      own = λ b v. elim (same? b x) [
+        | inl e ↦ rw (e, acts-here, cur-append (λ w. none) (acts x ds) (a ∷ [])) (here v)
+        | inr d ↦ rw (acts-else b d) (other b v d ∙ h .own b v)
+      ];
+      tells = λ b. elim (same? b x) [
+        | inl e ↦ rw (e, acts-here) (tells-append s′ x (λ v. s′ .entry v x) [] (acts x ds) (a ∷ []) (still x) tell)
+        | inr d ↦ rw (acts-else b d) (still b)
+      ];
+    }
 
   made-param : made ≡ param → ⊥
   made-param e = let z : _≡_ {A = ℕ} 0 1 = cc in omega arith
@@ -268,22 +265,14 @@ module _ (E : Type 0) (g : Graph) (s : Form) (ds : List Done) (h : Whole E g s d
   fine-make : (x y : ℕ) → ((n b : ℕ) → act b (said n) ≡ if-so (eqb x b) (makes n)) → Fine (make-value g s x y)
   fine-make x y is =
       check 6 (no-block g s x || leb type-count y) _ (omega arith) λ _. check 9 (g .branch x) _ (omega arith) λ _. check 4 (leb (limits .made) (s .makes)) _ (omega arith) λ _.
-      spoken n s₂ (h .kp) (make-inv g E s₁ (h .kp) idle inv₁ made y x made-param)
-      (λ b v. elim (same? x b) [
-        | inl e ↦ h .own b v ∙ sym (cur-here n x (makes n) (is n) b v e)
-        | inr d ↦ h .own b v ∙ sym (cur-else n x (makes n) (is n) b v d)
-      ])
-      (λ b. elim (same? x b) [
-        | inl e ↦ tells-here n x (makes n) (is n) s₂ b e (tells-append s₂ b (λ v. s .entry v b) [] (acts b ds) (makes n ∷ [])
-            (tells-mono s s₂ (keeps up) b (λ v. s .entry v b) (λ v. s .entry v b) [] (λ v o q. q) (acts b ds) (h .tells b)) (
-              λ i. omega (arith, made-below s b (λ v. s .entry v b) [] (acts b ds) (h .tells b) (λ y j. absurd j) n i),
-              omega arith,
-              ap (λ (i : Info). i .home) new ∙ e,
-              ap (λ (i : Info). i .sort) new,
-              tt,
-            ))
-        | inr d ↦ tells-else n x (makes n) (is n) s₂ (keeps up) b (λ v u q. q) d
-      ])
+      spoken n x (makes n) (is n) (make made y x s₁) (h .kp) (make-inv g E s₁ (h .kp) idle inv₁ made y x made-param)
+      (keeps (make-grow g E s₁ (h .kp) idle inv₁ made y x made-param)) (λ b v e q. q) (h .own x) (λ b v d. refl) (
+        λ i. omega (arith, made-below s x (λ v. s .entry v x) [] (acts x ds) (h .tells x) (λ y j. absurd j) n i),
+        omega arith,
+        ap (λ (i : Info). i .home) new,
+        ap (λ (i : Info). i .sort) new,
+        tt,
+      )
     where
       n : ℕ
       n = s .next
@@ -291,65 +280,39 @@ module _ (E : Type 0) (g : Graph) (s : Form) (ds : List Done) (h : Whole E g s d
       s₁ : Form
       s₁ = place-block x (with-makes s (suc (s .makes)))
 
-      s₂ : Form
-      s₂ = make made y x s₁
-
       inv₁ : Inv g E s₁ (h .kp) idle
       inv₁ = relog-inv g E (s .zeros) (s₁ .placed) (s₁ .makes) s (h .kp) idle (h .inv)
 
-      up : Grow s s₂
-      up = make-grow g E s₁ (h .kp) idle inv₁ made y x made-param
-
-      new : s₂ .info (s .next) ≡ record { sort = made; type = y; home = x }
+      new : make made y x s₁ .info (s .next) ≡ record { sort = made; type = y; home = x }
       new = put-same (s .next) (record { sort = made; type = y; home = x }) (s .info)
 
   fine-define : (v x b : ℕ) → ((n c : ℕ) → act c (said n) ≡ if-so (eqb b c) (gives v n))
       → (E → define g s v x b ≡ ok x g (write v b x s) → (c : ℕ) → In b (g .preds c) → ⊥) → Fine (define g s v x b)
   fine-define v x b is nowhere =
       check 6 (no-var g s v || no-value g s x || no-block g s b) _ (omega arith) λ e₆. check 7 (not (eqb (s .info x .type) (type-of g v))) _ (omega arith) λ e₇.
-      spoken x (write v b x s) (h .kp) (write-inv g E s (h .kp) idle (h .inv) v b x (λ ok-e. nowhere ok-e (rw (e₆, e₇) refl)))
-      (λ c w. elim (same? b c) [
-        | inl e ↦ own c w e ∙ sym (cur-here x b (gives v x) (is x) c w e)
-        | inr d ↦ put₂-other v b (some x) (s .own) w c (λ _ q. d (sym q)) ∙ h .own c w ∙ sym (cur-else x b (gives v x) (is x) c w d)
+      spoken x b (gives v x) (is x) (write v b x s) (h .kp) (write-inv g E s (h .kp) idle (h .inv) v b x (λ ok-e. nowhere ok-e (rw (e₆, e₇) refl)))
+      (record { res = λ y z q. q; info = λ y l. refl; more = omega arith }) (λ c w e q. q)
+      (λ w. elim (same? w v) [
+        | inl q ↦ put₂-at v b (some x) (s .own) w b q refl ∙ sym (put-at v (some x) (cur (λ u. none) (acts b ds)) w q)
+        | inr n ↦ put₂-other v b (some x) (s .own) w b (λ q _. n q) ∙ h .own b w ∙ sym (put-other v (some x) (cur (λ u. none) (acts b ds)) w n)
       ])
-      (λ c. elim (same? b c) [
-        | inl e ↦ tells-here x b (gives v x) (is x) (write v b x s) c e (tells-append (write v b x s) c (λ w. s .entry w c) [] (acts c ds) (gives v x ∷ [])
-            (tells-mono s (write v b x s) level c (λ w. s .entry w c) (λ w. s .entry w c) [] (λ w o q. q) (acts c ds) (h .tells c)) tt)
-        | inr d ↦ tells-else x b (gives v x) (is x) (write v b x s) level c (λ w u q. q) d
-      ])
-    where
-      level : Keeps s (write v b x s)
-      level = record { res = λ y z q. q; info = λ y l. refl; more = omega arith }
-
-      own : (c w : ℕ) → b ≡ c → put₂ v b (some x) (s .own) w c ≡ put v (some x) (cur (λ u. none) (acts c ds)) w
-      own c w e = elim (same? w v) [
-        | inl q ↦ put₂-at v b (some x) (s .own) w c q (sym e) ∙ sym (put-at v (some x) (cur (λ u. none) (acts c ds)) w q)
-        | inr n ↦ put₂-other v b (some x) (s .own) w c (λ q _. n q) ∙ h .own c w ∙ sym (put-other v (some x) (cur (λ u. none) (acts c ds)) w n)
-      ]
+      (λ c w d. put₂-other v b (some x) (s .own) w c (λ _ q. d q)) tt
 
   fine-use : (v b : ℕ) → ((n c : ℕ) → act c (said n) ≡ if-so (eqb b c) (uses v n)) → Fine (use-var g s v b)
   fine-use v b is = check 6 (no-var g s v || no-block g s b) _ (omega arith) λ e.
       let o = or-no (no-var g s v) (no-block g s b) e in
       let lv = leb-no (length (g .types)) v (o .0) in
-      go (reads g (h .sound) v lv E (depth g) b s (h .kp) idle (leb-no (g .blocks) b (o .1)) (h .inv) (λ c z. inl refl) (shallow v s g))
-    where
-      q : ℕ × Form
-      q = read (depth g) g v b s
-
-      go : Read g v E s idle b (read (depth g) g v b s) → Fine (ok (read (depth g) g v b s .0) g (read (depth g) g v b s .1))
-      go r = spoken (q .0) (q .1) (r .kp) (r .inv)
-          (λ c w. elim (same? b c) [
-            | inl e ↦ r .grow .own w c ∙ h .own c w ∙ sym (cur-here (q .0) b (uses v (q .0)) (is (q .0)) c w e)
-            | inr d ↦ r .grow .own w c ∙ h .own c w ∙ sym (cur-else (q .0) b (uses v (q .0)) (is (q .0)) c w d)
-          ])
-          (λ c. elim (same? b c) [
-            | inl e ↦ tells-here (q .0) b (uses v (q .0)) (is (q .0)) (q .1) c e (tells-append (q .1) c (λ w. q .1 .entry w c) [] (acts c ds) (uses v (q .0) ∷ [])
-                (tells-mono s (q .1) (keeps (r .grow)) c (λ w. s .entry w c) (λ w. q .1 .entry w c) [] (λ w u i. r .grow .entry w c u i) (acts c ds) (h .tells c)) ((r .o, stands c e, r .alike), tt))
-            | inr d ↦ tells-else (q .0) b (uses v (q .0)) (is (q .0)) (q .1) (keeps (r .grow)) c (λ w u i. r .grow .entry w c u i) d
-          ])
-        where
-          stands : (c : ℕ) → b ≡ c → cur (λ w. q .1 .entry w c) (acts c ds) v ≡ some (r .o)
-          stands c e = cur-or (λ w. q .1 .entry w c) (acts c ds) (λ w. none) v ∙ ap (λ (z : Option ℕ). orElse z (q .1 .entry v c)) (sym (r .grow .own v c ∙ h .own c v)) ∙ ap (def (q .1) v) (sym e) ∙ r .recorded
+      let q = read (depth g) g v b s in
+      let r = reads g (h .sound) v lv E (depth g) b s (h .kp) idle (leb-no (g .blocks) b (o .1)) (h .inv) (λ c z. inl refl) (shallow v s g) in
+      spoken (q .0) b (uses v (q .0)) (is (q .0)) (q .1) (r .kp) (r .inv) (keeps (r .grow)) (λ c w u i. r .grow .entry w c u i)
+      (λ w. r .grow .own w b ∙ h .own b w) (λ c w d. r .grow .own w c) (
+        (
+          r .o,
+          cur-or (λ w. q .1 .entry w b) (acts b ds) (λ w. none) v ∙ ap (λ (z : Option ℕ). orElse z (q .1 .entry v b)) (sym (r .grow .own v b ∙ h .own b v)) ∙ r .recorded,
+          r .alike,
+        ),
+        tt,
+      )
 
   -- sealing several
   record Each (g₀ : Graph) (s₀ : Form) (r : Graph × Form) : Type 0 where
