@@ -1,11 +1,10 @@
 // Each kind of call that needs only the graph and the form: document 01's checks in its order, then the change. Reading and sealing are not here.
 ghost use mathlib.Core.Path.{_≡_};
-ghost use mathlib.Core.Bool.{false, not};
+ghost use mathlib.Core.Bool.{false};
 ghost use mathlib.Core.Option.{Option};
 ghost use mathlib.Core.List.{List};
 ghost use Prim.Native.Nat.{ℕ, _<_};
 ghost use Rattle.entity.specs.Limits.{limits};
-ghost use Rattle.definition.specs.Base.{Value};
 ghost use Rattle.definition.specs.Form.{Graph, Form};
 ghost use Rattle.definition.specs.Session.{no-block, no-var, no-branch, declare-block, declare-var, make-value, define, define-answer};
 ghost use Rattle.definition.specs.Session.{new-branch, new-dest, add-pred, drop-pred, any-preds, is-sealed};
@@ -39,7 +38,7 @@ pub const SEALED: u32 = 8;
 
 pub const BRANCHED: u32 = 9;
 
-pub const EIGHT_DESTS: u32 = 10;
+pub const DESTS_FULL: u32 = 10;
 
 pub const DECLARED: u32 = 11;
 
@@ -47,6 +46,7 @@ pub const DECLARED_HERE: u32 = 12;
 
 pub const UNRELATED: u32 = 13;
 
+// A refused call has the number 0 and leaves the counts as they were.
 pub fn refuse(code: u32, c: Counts) -> Reply
     ensures { λ r. ⌜ r ≡ refusal code c ⌝ }
 {
@@ -57,6 +57,7 @@ pub fn refuse(code: u32, c: Counts) -> Reply
     }
 }
 
+// Code 0 is for a call that was not refused.
 pub fn accept(number: u32, c: Counts) -> Reply
     ensures { λ r. ⌜ r ≡ acceptance number c ⌝ }
 {
@@ -67,6 +68,7 @@ pub fn accept(number: u32, c: Counts) -> Reply
     }
 }
 
+// Blocks are numbered from 0 without a gap, so those that are there are below their count.
 pub fn no_block(graph: &[u32], b: u32) -> bool
     requires { ⌜ Graph-with (Seen (now graph)) ⌝ }
     ensures { λ r. ⌜ (r ≡ false → b < limits .blocks) ⌝ }
@@ -75,6 +77,7 @@ pub fn no_block(graph: &[u32], b: u32) -> bool
     graph::block_count(graph) <= b
 }
 
+// So are variables.
 pub fn no_var(graph: &[u32], v: u32) -> bool
     requires { ⌜ Graph-with (Seen (now graph)) ⌝ }
     ensures { λ r. ⌜ (r ≡ false → v < limits .variables) ⌝ }
@@ -232,7 +235,7 @@ pub fn new_dest(graph: &mut [u32], c: Counts, x: u32, y: u32) -> Reply
         return refuse(DECLARED, c);
     }
     if entity::DESTS <= n {
-        return refuse(EIGHT_DESTS, c);
+        return refuse(DESTS_FULL, c);
     }
     graph::declare_dest(graph, Branch(x), Block(y));
     accept(n, c)
