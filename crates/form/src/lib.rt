@@ -113,7 +113,8 @@ pub fn remove_block_param(form: &mut [u32], block: Block, val: Value)
 // The value becomes another name.
 pub fn change_to_alias(form: &mut [u32], val: Value, to: Value)
     requires { ⌜ Ex (Has-value (now form) (val .0)) ⌝ }
-    ensures { λ r. ⌜ ((s : Form) → Has-value (now (form .entry)) (val .0) s → Cells (now (form .exit)) (with-target s (put (val .0) (to .0) (s .target)))) ⌝ }
+    ensures { λ r. ⌜ ((s : Form) → Has-value (now (form .entry)) (val .0) s
+        → Cells (now (form .exit)) (with-target s (put (val .0) (to .0) (s .target)))) ⌝ }
 {
     let i = val.0 as usize;
     form[TARGET + i] = to.0;
@@ -143,7 +144,8 @@ pub fn record_def(form: &mut [u32], var: Variable, block: Block, val: Value)
 // The variable is pending in the block. Its parameter, any x here, is not stored again: it is found by its place among the block's.
 pub fn push_pending(form: &mut [u32], var: Variable, block: Block)
     requires { ⌜ Ex (Can-wait (now form) (block .0)) ⌝ }
-    ensures { λ r. ⌜ ((s : Form) → Can-wait (now (form .entry)) (block .0) s → (x : ℕ) → Cells (now (form .exit)) (wait (var .0) (block .0) x s)) ⌝ }
+    ensures { λ r. ⌜ ((s : Form) → Can-wait (now (form .entry)) (block .0) s → (x : ℕ)
+        → Cells (now (form .exit)) (wait (var .0) (block .0) x s)) ⌝ }
 {
     let b = block.0 as usize;
     rows::push(form, PENDING + b * PARAM_ROW, var.0);
@@ -152,7 +154,8 @@ pub fn push_pending(form: &mut [u32], var: Variable, block: Block)
 // How many variables are pending in the block.
 pub fn pending_count(form: &[u32], block: Block) -> u32
     requires { ⌜ Ex (Has-pending (now form) (block .0)) ⌝ }
-    ensures { λ r. ⌜ (r ≤ param-room limits) × ((s : Form) → Has-pending (now (form .entry)) (block .0) s → r ≡ length (s .pending (block .0))) ⌝ }
+    ensures { λ r. ⌜ (r ≤ param-room limits) × ((s : Form) → Has-pending (now (form .entry)) (block .0) s
+        → r ≡ length (s .pending (block .0))) ⌝ }
 {
     let b = block.0 as usize;
     form[PENDING + b * PARAM_ROW]
@@ -162,7 +165,8 @@ pub fn pending_count(form: &[u32], block: Block) -> u32
 fn list_pending(form: &[u32], block: Block, list: &mut [u32]) -> u32
     requires { ⌜ Ex (Has-pending (now form) (block .0)) ⌝ }
     requires { ⌜ param-room limits ≤ length (now list) ⌝ }
-    ensures { λ r. ⌜ (r ≤ param-room limits) × ((s : Form) → Has-pending (now (form .entry)) (block .0) s → Lists (now (list .exit)) (block .0) r s) ⌝ }
+    ensures { λ r. ⌜ (r ≤ param-room limits) × ((s : Form) → Has-pending (now (form .entry)) (block .0) s
+        → Lists (now (list .exit)) (block .0) r s) ⌝ }
 {
     let n = pending_count(form, block);
     let b = block.0 as usize;

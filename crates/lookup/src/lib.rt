@@ -57,7 +57,8 @@ pub fn use_var_nonlocal(
 fn copy_back(graph: &[u32], form: &mut [u32], var: Variable, block: Block, from: Block, val: Value)
     requires { ⌜ Copy-with (Can-copy (now graph) (now form) (var .0) (block .0) (from .0)) ⌝ }
     requires { ⌜ val .0 < value-room limits ⌝ }
-    ensures { λ r. ⌜ ((g : Graph) → (s : Form) → (bs : List ℕ) → Can-copy (now (graph .entry)) (now (form .entry)) (var .0) (block .0) (from .0) g s bs
+    ensures { λ r. ⌜ ((g : Graph) → (s : Form) → (bs : List ℕ)
+        → Can-copy (now (graph .entry)) (now (form .entry)) (var .0) (block .0) (from .0) g s bs
         → Cells (now (form .exit)) (mark (var .0) (val .0) bs s)) ⌝ }
 {
     let to = from.0;

@@ -26,7 +26,8 @@ use settle::Finished;
 pub fn def_var(form: &mut [u32], var: Variable, val: Value, block: Block)
     requires { ⌜ Ex (Has-def (now form) (var .0) (block .0)) ⌝ }
     requires { ⌜ val .0 < value-room limits ⌝ }
-    ensures { λ r. ⌜ ((s : Form) → Has-def (now (form .entry)) (var .0) (block .0) s → Cells (now (form .exit)) (write (var .0) (block .0) (val .0) s)) ⌝ }
+    ensures { λ r. ⌜ ((s : Form) → Has-def (now (form .entry)) (var .0) (block .0) s
+        → Cells (now (form .exit)) (write (var .0) (block .0) (val .0) s)) ⌝ }
 {
     form::record_def(form, var, block, val);
 }
@@ -127,7 +128,8 @@ fn predecessors_lookup(
     dest: Block,
 ) -> Counts
     requires { ⌜ State-with (Can-fill (now graph) (now form) (now work) c (var .0) (sentinel .0) (dest .0)) ⌝ }
-    ensures { λ r. ⌜ ((g : Graph) → (s : Form) → Can-fill (now (graph .entry)) (now (form .entry)) (now (work .entry)) c (var .0) (sentinel .0) (dest .0) g s
+    ensures { λ r. ⌜ ((g : Graph) → (s : Form)
+        → Can-fill (now (graph .entry)) (now (form .entry)) (now (work .entry)) c (var .0) (sentinel .0) (dest .0) g s
         → Has-filled (now (form .exit)) (now (work .exit)) (c .call) r (var .0) (sentinel .0) (dest .0) g s) ⌝ }
 {
     let ty = graph::variable_type(graph, var);
