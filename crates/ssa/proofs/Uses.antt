@@ -1,0 +1,146 @@
+-- A use, and settling a parameter that waited, are runs of the machine, which end with the recursion's answer. A use that finds a definition in its own
+-- block is answered by it.
+-- Assumes nothing.
+use Prim.Native.Nat.{ℕ, suc, _-_, _<_}
+use mathlib.Core.Path.{_≡_, refl, sym, ap, _∙_, subst}
+use mathlib.Core.Logic.{_≢_}
+use mathlib.Core.Option.{Option, none, some}
+use mathlib.Core.List.{List, []}
+use native.Mathlib.Nat.{le-trans}
+use native.Mathlib.Omega.{arith}
+use lib.ListN.{length}
+use Rattle.entity.specs.Limits.{limits}
+use Rattle.definition.specs.Base.{put}
+use Rattle.definition.specs.Form.{Graph, Form, def}
+use Rattle.definition.specs.Read.{Got, type-of, fill, read-on, read, depth}
+use Rattle.definition.specs.Tables.{plus-one}
+use Rattle.meaning.specs.Machine.{Task, conf, schedule, visit}
+use Rattle.meaning.proofs.Load.{load-next}
+use Rattle.meaning.proofs.Machine.{does, fills}
+use Rattle.meaning.proofs.Rest.{at-head}
+use Rattle.meaning.proofs.Rooms.{use-moment, seal-moment}
+use Rattle.meaning.proofs.Sealing.{idle, shallow}
+use Rattle.meaning.proofs.Steady.{Steady, steady-use}
+use Rattle.meaning.proofs.Turns.{goes-on}
+use Rattle.layout.specs.declared.Counts.{Counts}
+use Rattle.layout.specs.Layout.{Graphs, Stacks}
+use Rattle.graph.specs.Seen.{Seen}
+use Rattle.graph.proofs.Cells.{preds-few}
+use Rattle.form.specs.Can.{Has-def}
+use Rattle.lookup.specs.Find.{Can-begin, Can-use, Visits}
+use Rattle.settle.specs.declared.Finished.{Finished}
+use Rattle.ssa.specs.Run.{Can-run, Ran}
+use Rattle.ssa.specs.Use.{At-rest, Can-read, Has-read, Can-fill, Has-filled}
+use Rattle.ssa.proofs.Asks.{first-asks}
+
+pub seen-of : {gl : List ℕ} {c : Counts} {g : Graph} {s : Form} → Graphs gl c g → Steady g s → Seen gl g
+seen-of e h = record { cells = e .cells; bounds = h .bounds; sound = h .sound }
+
+-- ---- a use
+
+-- what the cell of a definition says
+some-of : (o : Option ℕ) → plus-one o ≢ 0 → o ≡ some (plus-one o - 1)
+some-of none n = absurd (n refl)
+some-of (some y) n = let e : suc y - 1 ≡ y = omega arith in ap {B = Option ℕ} some (sym e)
+
+module _ {gl fl wl : List ℕ} {c : Counts} {v b : ℕ} {g : Graph} {s : Form} (h : Can-read gl fl wl c v b g s) where
+  pub read-seen : Seen gl g
+  read-seen = seen-of (h .rest .graph) (h .rest .steady)
+
+  pub var-known : v < limits .variables
+  var-known = le-trans (h .var) (h .rest .steady .bounds .vars)
+
+  pub def-can : Has-def fl v b s
+  def-can = record { cells = h .rest .shown .form .cells; var = var-known; known = le-trans (h .known) (h .rest .steady .bounds .few) }
+
+  -- recorded in b itself
+  pub read-here : {x : ℕ} → x ≡ plus-one (def s v b) → x ≢ 0 → (r : Finished) → r .0 .0 ≡ x - 1 → r .1 ≡ c → Has-read gl fl wl r v b g s
+  read-here {x} e n r ev ec =
+      let o : def s v b ≡ some (plus-one (def s v b) - 1) = some-of (def s v b) (λ z. n (e ∙ z)) in
+      let q : read (depth g) g v b s ≡ (plus-one (def s v b) - 1, s) = ap (read-on (read (g .blocks) g v) g v b s) o in
+      record {
+        val = ev ∙ ap (λ (y : ℕ). y - 1) e ∙ ap (λ (z : Got). z .0) (sym q);
+        rest = subst (λ (z : Got). At-rest gl fl wl (r .1) g (z .1)) (sym q) (subst (λ (d : Counts). At-rest gl fl wl d g s) (sym ec) (h .rest));
+      }
+
+  module _ {ty : ℕ} (e : (g : Graph) → Seen gl g → ty ≡ type-of g v) where
+    pub use-can : Can-use gl fl wl c v ty b g s [] []
+    use-can = record {
+      seen = read-seen;
+      call = h .rest .graph .call;
+      shows = h .rest .shown .form;
+      stacks = h .rest .shown .work;
+      var = h .var;
+      type = e g read-seen;
+      known = h .known;
+      ready = first-asks g s (h .rest .steady) v (h .var);
+    }
+
+    module _ {fl₁ wl₁ : List ℕ} {d : Counts}
+        (U : (g : Graph) → (s : Form) → (ts : List Task) → (rs : List ℕ) → Can-use gl fl wl c v ty b g s ts rs → Visits fl₁ wl₁ (c .call) d v b g s ts rs) where
+      pub use-run : Can-run gl fl₁ wl₁ d v ty g (visit g v b [] [] s (def s v b)) (read (depth g) g v b s .0) (read (depth g) g v b s .1)
+      use-run = record {
+        under = record {
+          seen = read-seen;
+          call = U g s [] [] use-can .call ∙ h .rest .graph .call;
+          shown = U g s [] [] use-can .shown;
+          var = h .var;
+          type = e g read-seen;
+          others = idle;
+          number = 0;
+          moment = use-moment g (h .rest .steady .sound) (h .rest .steady .bounds) v (h .var) b s (h .known) (h .rest .steady .rest);
+        };
+        goal = goes-on g v (does g (h .rest .steady .sound) v (depth g) b s (h .known) (shallow v s g) [] []) refl;
+      }
+
+      pub has-read : {fl₂ wl₂ : List ℕ} {r : Finished} → Ran fl₂ wl₂ (d .call) r (read (depth g) g v b s .0) (read (depth g) g v b s .1) → Has-read gl fl₂ wl₂ r v b g s
+      has-read a = record {
+        val = a .val;
+        rest = record {
+          graph = record { cells = h .rest .graph .cells; call = a .call ∙ use-run .under .call };
+          shown = a .shown;
+          steady = steady-use g s (h .rest .steady) v (h .var) b (h .known);
+        };
+      }
+
+-- ---- a parameter that waited
+
+module _ {gl fl wl : List ℕ} {c : Counts} {v x b : ℕ} {g : Graph} {s : Form} (h : Can-fill gl fl wl c v x b g s) where
+  waits : s .entry v b ≡ some x
+  waits = at-head g (h .seen .sound) (h .seen .bounds) b (h .sealed) (v, x) (h .others) (suc (length (h .others))) s (h .rest)
+
+  fill-var : v < length (g .types)
+  fill-var = h .rest .inv .known v b x waits .0
+
+  pub type-can : v < limits .variables
+  type-can = le-trans fill-var (h .seen .bounds .vars)
+
+  pub begin-can : Can-begin gl wl c x b g [] []
+  begin-can = record {
+    seen = h .seen;
+    stacks = h .shown .work;
+    known = le-trans (h .seen .bounds .shut b (h .sealed)) (h .seen .bounds .few);
+    small = omega (arith, h .rest .ranged .recorded .entries v b x waits, load-next s (suc (length (h .others))) (h .rest .load) .0);
+    room = omega (arith, preds-few (h .seen) b);
+  }
+
+  module _ {ty : ℕ} (e : (g : Graph) → Seen gl g → ty ≡ type-of g v) {wl₁ : List ℕ} {d : Counts}
+      (S : (d .values ≡ c .values) × (d .call ≡ c .call) × ((g : Graph) → (ts : List Task) → (rs : List ℕ) → Can-begin gl wl c x b g ts rs → Stacks wl₁ d (schedule g x b ts) rs)) where
+    pub fill-run : Can-run gl fl wl₁ d v ty g (conf (schedule g x b []) [] s) (fill (read (depth g) g v) g b x s .0) (fill (read (depth g) g v) g b x s .1)
+    fill-run = record {
+      under = record {
+        seen = h .seen;
+        call = S .1 ∙ h .call;
+        shown = record { form = record { cells = h .shown .form .cells; next = S .0 ∙ h .shown .form .next }; work = S .2 g [] [] begin-can };
+        var = fill-var;
+        type = e g (h .seen);
+        others = put b (h .others) idle;
+        number = length (h .others);
+        moment = seal-moment g (h .seen .sound) (h .seen .bounds) b (h .sealed) (v, x) (h .others) s (h .rest);
+      };
+      goal = fills g (h .seen .sound) v (depth g) b x s (shallow v s g) [] [];
+    }
+
+    pub has-filled : {fl₁ wl₂ : List ℕ} {r : Finished} → Ran fl₁ wl₂ (d .call) r (fill (read (depth g) g v) g b x s .0) (fill (read (depth g) g v) g b x s .1)
+        → Has-filled fl₁ wl₂ (c .call) (r .1) v x b g s
+    has-filled a = record { call = a .call ∙ S .1; shown = a .shown }
