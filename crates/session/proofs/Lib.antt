@@ -1,0 +1,6 @@
+pub mod Logs
+pub mod Calls
+pub mod Told
+pub mod Turns
+pub mod Runs
+pub mod Fits

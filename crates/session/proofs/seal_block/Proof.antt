@@ -1,0 +1,56 @@
+-- `seal_block` meets its contract: the checks are the definition's; the log only grows, so the difference of its lengths counts the zeros added.
+-- Assumes nothing.
+use Rattle.definition.specs.Session.{seal-form}
+use Rattle.kinds.proofs.Answered.{tested}
+use Rattle.session.proofs.Logs.{seal-more}
+use Rattle.session.proofs.Calls.{named, seen-of, seen-some, cells-of, seal-can, turned-down, taken-on, difference}
+use borrow.Author.Needs.{needs}
+use native.Mathlib.Omega.{arith}
+use Rattle.session.proofs.seal_block.Statement.{statement}
+use Rattle.session.proofs.seal_block.Tie as tie
+
+no-block-requires : tie.Need-no-block-requires
+no-block-requires c κs = seen-some (c .before .before .before .before .pre)
+
+returns : tie.Need-returns
+returns c = λ t h. rw (tested (c .before .before .no-block .ensures .1 _ (t .form) (seen-of h)) (c .before .if1 .taken)) (turned-down h (c .refuse .ensures))
+
+is-sealed-requires : tie.Need-is-sealed-requires
+is-sealed-requires c κs = (seen-some (c .before .before .before .before .before .before .before .pre), c .before .before .no-block .ensures .0 (c .before .if1 .left))
+
+returns-2 : tie.Need-returns-2
+returns-2 c = λ t h.
+    rw (tested (c .before .before .before .before .before .no-block .ensures .1 _ (t .form) (seen-of h)) (c .before .before .before .before .if1 .left), tested (c .before .before .is-sealed .ensures _ (seen-of h)) (c .before .if2 .taken))
+    (turned-down h (c .refuse2 .ensures))
+
+seal-one-block-requires : tie.Need-seal-one-block-requires
+seal-one-block-requires c κs = let p = c .before .before .before .before .before .before .before .before .before .before .before .before .before .before .pre in (_, _, seal-can (p .1) (named (c .before .before .before .before .before .before .before .before .before .no-block .ensures .1 _ (p .0 .form) (seen-of (p .1))) (c .before .before .before .before .before .before .before .before .if1 .left)))
+
+zero-count-requires-2 : tie.Need-zero-count-requires-2
+zero-count-requires-2 c κs =
+    let p = c .before .before .before .before .before .before .before .before .before .before .before .before .before .before .before .before .before .before .before .before .before .before .pre in
+    let b = named (c .before .before .before .before .before .before .before .before .before .before .before .before .before .before .before .before .before .no-block .ensures .1 _ (p .0 .form) (seen-of (p .1))) (c .before .before .before .before .before .before .before .before .before .before .before .before .before .before .before .before .if1 .left) in
+    (seal-form (p .0 .graph) (p .0 .form) (c .before .before .before .before .before .before .before .before .before .before .before .before .before .before .before .before .before .before .before .before .before .before .args .x), c .before .before .before .before .before .before .before .seal-one-block .ensures _ _ (seal-can (p .1) b) .first (tested (c .before .before .before .before .before .before .before .before .before .before .before .before .before .before .is-sealed .ensures _ (seen-of (p .1))) (c .before .before .before .before .before .before .before .before .before .before .before .before .before .if2 .left)) .shown .form .cells)
+
+sub-accept : tie.Need-sub-accept
+sub-accept c =
+    let p = c .before .before .before .before .before .before .before .before .before .before .before .before .before .before .before .before .before .before .before .before .before .before .before .pre in
+    let b = named (c .before .before .before .before .before .before .before .before .before .before .before .before .before .before .before .before .before .before .no-block .ensures .1 _ (p .0 .form) (seen-of (p .1))) (c .before .before .before .before .before .before .before .before .before .before .before .before .before .before .before .before .before .if1 .left) in
+    let u = c .before .before .before .before .before .before .before .before .seal-one-block .ensures _ _ (seal-can (p .1) b) .first (tested (c .before .before .before .before .before .before .before .before .before .before .before .before .before .before .before .is-sealed .ensures _ (seen-of (p .1))) (c .before .before .before .before .before .before .before .before .before .before .before .before .before .before .if2 .left)) in
+    omega (arith, c .before .before .before .before .before .before .before .before .before .before .before .before .zero-count .ensures (p .0 .form) (cells-of (p .1)), c .zero-count2 .ensures (seal-form (p .0 .graph) (p .0 .form) (c .before .before .before .before .before .before .before .before .before .before .before .before .before .before .before .before .before .before .before .before .before .before .before .args .x)) (u .shown .form .cells), seal-more (p .0 .graph) (p .0 .form) (c .before .before .before .before .before .before .before .before .before .before .before .before .before .before .before .before .before .before .before .before .before .before .before .args .x))
+
+returns-3 : tie.Need-returns-3
+returns-3 c = λ t h.
+    let b = c .before .before .before .before .before .before .before .before .before .before .before .before .before .before .before .before .before .before .before .no-block .ensures .1 _ (t .form) (seen-of h) in
+    let e = tested (c .before .before .before .before .before .before .before .before .before .before .before .before .before .before .before .before .is-sealed .ensures _ (seen-of h)) (c .before .before .before .before .before .before .before .before .before .before .before .before .before .before .before .if2 .left) in
+    let u = c .before .before .before .before .before .before .before .before .before .seal-one-block .ensures _ _ (seal-can h (named b (c .before .before .before .before .before .before .before .before .before .before .before .before .before .before .before .before .before .before .if1 .left))) .first e in
+    rw (tested b (c .before .before .before .before .before .before .before .before .before .before .before .before .before .before .before .before .before .before .if1 .left), e)
+    (taken-on (c .accept .ensures) (difference (c .before .zero-count2 .ensures (seal-form (t .graph) (t .form) (c .before .before .before .before .before .before .before .before .before .before .before .before .before .before .before .before .before .before .before .before .before .before .before .before .args .x)) (u .shown .form .cells)) (c .before .before .before .before .before .before .before .before .before .before .before .before .before .zero-count .ensures (t .form) (cells-of h))) u)
+
+pub seal-block-spec : {M : Type 1} → statement M
+seal-block-spec =
+    tie.close
+    (tie.spec
+    no-block-requires (λ c κs. search needs) (λ c. search needs) returns is-sealed-requires (λ c κs. search needs)
+    (λ c. search needs) returns-2 (λ c κs. search needs) seal-one-block-requires zero-count-requires-2 sub-accept
+    (λ c κs. search needs) (λ c. search needs) (λ c. search needs) (λ c. search needs) returns-3)

@@ -1,0 +1,287 @@
+// The session: a whole list of calls over lent cells. The lengths decide whether it is run at all; if it is, the calls are run in turn.
+ghost use mathlib.Core.Path.{_≡_};
+ghost use mathlib.Core.List.{List};
+ghost use Prim.Native.Nat.{ℕ, suc, _<_};
+ghost use lib.ListN.{length};
+ghost use Rattle.entity.specs.Limits.{limits};
+ghost use Rattle.definition.specs.Session.{State, use-var, seal, seal-all, answered, reply, step, session};
+ghost use Rattle.definition.specs.Tables.{plus-one};
+ghost use Rattle.definition.specs.Whole.{calls, needs, short, unfit};
+ghost use Rattle.meaning.proofs.Sure.{Sure};
+ghost use Rattle.layout.specs.Outcome.{shown};
+ghost use Rattle.session.specs.Ends.{long, lent, Exact, Leaves, Session};
+ghost use Rattle.session.specs.Turns.{State-with, Between, Answers, Replied, next-call, Told, Turned, Lined, call-at};
+use entity::Block;
+use entity::Variable;
+use kinds::Reply;
+use layout::Counts;
+
+// What a session answers where a lent list is shorter than its need, and where the call lists don't fit together.
+const SHORT: u32 = 1;
+
+const UNFIT: u32 = 2;
+
+// The code of a kind that is not there.
+const UNKNOWN: u32 = 3;
+
+// The kind of a use, whose answer a later call of kind 5 may name.
+const USE: u32 = 6;
+
+// The next call bears the next number.
+fn next_call(c: Counts) -> Counts
+    requires { ⌜ c .call < limits .calls ⌝ }
+    ensures { λ r. ⌜ r ≡ next-call c ⌝ }
+{
+    Counts {
+        values: c.values,
+        calls: c.calls,
+        results: c.results,
+        call: c.call + 1,
+    }
+}
+
+// Kind 6.
+fn use_var(graph: &[u32], form: &mut [u32], work: &mut [u32], c: Counts, x: u32, y: u32) -> Reply
+    requires { ⌜ State-with (Between (now graph) (now form) (now work) c) ⌝ }
+    ensures { λ r. ⌜ Answers (now (graph .entry)) (now (form .entry)) (now (work .entry)) (now (graph .entry)) (now (form .exit)) (now (work .exit)) c r
+        (λ g s. use-var g s x y) ⌝ }
+{
+    if kinds::no_var(graph, x) {
+        return kinds::refuse(kinds::ABSENT, c);
+    }
+    if kinds::no_block(graph, y) {
+        return kinds::refuse(kinds::ABSENT, c);
+    }
+    let f = ssa::use_var(graph, form, work, c, Variable(x), Block(y));
+    let val = f.0;
+    let d = f.1;
+    kinds::accept(val.0, d)
+}
+
+// Kind 11. The answer counts the zeros that the log has more.
+fn seal_block(graph: &mut [u32], form: &mut [u32], work: &mut [u32], c: Counts, x: u32) -> Reply
+    requires { ⌜ State-with (Between (now graph) (now form) (now work) c) ⌝ }
+    ensures { λ r. ⌜ Answers (now (graph .entry)) (now (form .entry)) (now (work .entry)) (now (graph .exit)) (now (form .exit)) (now (work .exit)) c r
+        (λ g s. seal g s x) ⌝ }
+{
+    if kinds::no_block(graph, x) {
+        return kinds::refuse(kinds::ABSENT, c);
+    }
+    if graph::is_sealed(graph, Block(x)) {
+        return kinds::refuse(kinds::SEALED, c);
+    }
+    let n = form::zero_count(form);
+    let d = ssa::seal_one_block(graph, form, work, c, Block(x));
+    let m = form::zero_count(form);
+    kinds::accept(m - n, d)
+}
+
+// Kind 12.
+fn seal_all_blocks(graph: &mut [u32], form: &mut [u32], work: &mut [u32], c: Counts) -> Reply
+    requires { ⌜ State-with (Between (now graph) (now form) (now work) c) ⌝ }
+    ensures { λ r. ⌜ Answers (now (graph .entry)) (now (form .entry)) (now (work .entry)) (now (graph .exit)) (now (form .exit)) (now (work .exit)) c r
+        seal-all ⌝ }
+{
+    let n = form::zero_count(form);
+    let d = ssa::seal_all_blocks(graph, form, work, c);
+    let m = form::zero_count(form);
+    kinds::accept(m - n, d)
+}
+
+// What the use at place y answered, plus one; 0 where there is no accepted use before place i.
+fn answered(kinds: &[u32], codes: &[u32], numbers: &[u32], i: usize, y: u32) -> u32
+    requires { ⌜ (i < length (now kinds)) × (length (now codes) ≡ length (now kinds)) × (length (now numbers) ≡ length (now kinds)) ⌝ }
+    requires { ⌜ State-with (λ t. Sure t × Told (now kinds) (now codes) (now numbers) (t .done) × (i ≡ length (t .done))) ⌝ }
+    ensures { λ r. ⌜ ((t : State) → Told (now (kinds .entry)) (now (codes .entry)) (now (numbers .entry)) (t .done) → i ≡ length (t .done)
+        → r ≡ plus-one (answered (t .done) y)) ⌝ }
+{
+    let k = y as usize;
+    if i <= k {
+        return 0;
+    }
+    if kinds[k] != USE {
+        return 0;
+    }
+    if codes[k] != 0 {
+        return 0;
+    }
+    numbers[k] + 1
+}
+
+// One call: each kind has its function. w is what the use at place y answered, plus one; 0 for none.
+fn one_call(
+    graph: &mut [u32],
+    form: &mut [u32],
+    work: &mut [u32],
+    c: Counts,
+    kind: u32,
+    x: u32,
+    y: u32,
+    z: u32,
+    w: u32,
+) -> Reply
+    requires { ⌜ State-with (Between (now graph) (now form) (now work) c) ⌝ }
+    ensures { λ r. ⌜ ((t : State) → w ≡ plus-one (answered (t .done) y) → Between (now (graph .entry)) (now (form .entry)) (now (work .entry)) c t
+        → Replied (now (graph .exit)) (now (form .exit)) (now (work .exit)) r (t .graph) (t .form) (reply (t .graph) (t .form) (t .done) x y z kind)) ⌝ }
+{
+    match kind {
+        1 => return kinds::declare_block(graph, form, c, x),
+        2 => return kinds::declare_var(graph, c, x, y),
+        3 => return kinds::make_value(graph, form, c, x, y),
+        4 => return kinds::define(graph, form, c, x, y, z),
+        5 => return kinds::define_answer(graph, form, c, x, z, w),
+        6 => return use_var(graph, form, work, c, x, y),
+        7 => return kinds::new_branch(graph, form, c, x),
+        8 => return kinds::new_dest(graph, c, x, y),
+        9 => return kinds::add_pred(graph, c, x, y),
+        10 => return kinds::drop_pred(graph, c, x, y),
+        11 => return seal_block(graph, form, work, c, x),
+        12 => return seal_all_blocks(graph, form, work, c),
+        13 => return kinds::has_any_predecessors(graph, c, x),
+        14 => return kinds::is_sealed(graph, c, x),
+        _ => return kinds::refuse(UNKNOWN, c),
+    }
+}
+
+// One turn: the call at place i is answered, and its answer written there.
+fn turn(
+    kinds: &[u32],
+    xs: &[u32],
+    ys: &[u32],
+    zs: &[u32],
+    codes: &mut [u32],
+    numbers: &mut [u32],
+    graph: &mut [u32],
+    form: &mut [u32],
+    work: &mut [u32],
+    c: Counts,
+    i: usize,
+) -> Counts
+    requires { ⌜ i < length (now kinds) ⌝ }
+    requires { ⌜ Lined (length (now kinds)) (now xs) (now ys) (now zs) (now codes) (now numbers) ⌝ }
+    requires { ⌜ State-with (Turned (now kinds) (now codes) (now numbers) (now graph) (now form) (now work) c i) ⌝ }
+    ensures { λ r. ⌜ ((t : State)
+        → Turned (now (kinds .entry)) (now (codes .entry)) (now (numbers .entry)) (now (graph .entry)) (now (form .entry)) (now (work .entry)) c i t
+        → Turned (now (kinds .entry)) (now (codes .exit)) (now (numbers .exit)) (now (graph .exit)) (now (form .exit)) (now (work .exit)) r (suc i)
+        (step t (call-at (now (kinds .entry)) (now (xs .entry)) (now (ys .entry)) (now (zs .entry)) i))) ⌝ }
+{
+    let y = ys[i];
+    let w = answered(kinds, codes, numbers, i, y);
+    let r = one_call(graph, form, work, c, kinds[i], xs[i], y, zs[i], w);
+    codes[i] = r.code;
+    numbers[i] = r.number;
+    let d = r.counts;
+    next_call(d)
+}
+
+// Do the call lists differ in length, or are there more calls than the limit?
+fn unfit(kinds: &[u32], xs: &[u32], ys: &[u32], zs: &[u32]) -> bool
+    ensures { λ r. ⌜ r ≡ unfit (now (kinds .entry)) (now (xs .entry)) (now (ys .entry)) (now (zs .entry)) ⌝ }
+{
+    let n = kinds.len();
+    if xs.len() != n {
+        return true;
+    }
+    if ys.len() != n {
+        return true;
+    }
+    if zs.len() != n {
+        return true;
+    }
+    (entity::CALLS as usize) < n
+}
+
+// Is some list shorter than n calls need?
+fn short(n: usize, codes: usize, numbers: usize, graph: usize, form: usize, work: usize) -> bool
+    ensures { λ r. ⌜ r ≡ short (needs n) (long codes numbers graph form work) ⌝ }
+{
+    if codes < n {
+        return true;
+    }
+    if numbers < n {
+        return true;
+    }
+    if graph < entity::GRAPH_NEED {
+        return true;
+    }
+    if form < entity::FORM_NEED {
+        return true;
+    }
+    work < entity::WORK_NEED
+}
+
+// Runs the calls in turn, from the empty session, over lists of just the needed length.
+fn run(
+    kinds: &[u32],
+    xs: &[u32],
+    ys: &[u32],
+    zs: &[u32],
+    codes: &mut [u32],
+    numbers: &mut [u32],
+    graph: &mut [u32],
+    form: &mut [u32],
+    work: &mut [u32],
+)
+    requires { ⌜ Lined (length (now kinds)) (now xs) (now ys) (now zs) (now codes) (now numbers) ⌝ }
+    requires { ⌜ Exact (now graph) (now form) (now work) ⌝ }
+    ensures { λ r. ⌜ Leaves (lent (now (codes .exit)) (now (numbers .exit)) (now (graph .exit)) (now (form .exit)) (now (work .exit)))
+        (shown (session (calls (now (kinds .entry)) (now (xs .entry)) (now (ys .entry)) (now (zs .entry))))) ⌝ }
+{
+    clear::clear(graph, form, work);
+    let mut c = Counts {
+        values: 0,
+        calls: 0,
+        results: 0,
+        call: 0,
+    };
+    let mut i: usize = 0;
+    while i < kinds.len() {
+        c = turn(kinds, xs, ys, zs, codes, numbers, graph, form, work, c, i);
+        i += 1;
+    }
+}
+
+// A session: the four lists hold its calls, a kind and three numbers each. It answers 2 where those lists don't fit, else 1 where a lent list is too short,
+// and then leaves all as it was; else 0, with each call's code and number, and the tables that the calls lead to.
+pub fn session(
+    kinds: &[u32],
+    xs: &[u32],
+    ys: &[u32],
+    zs: &[u32],
+    codes: &mut [u32],
+    numbers: &mut [u32],
+    graph: &mut [u32],
+    form: &mut [u32],
+    work: &mut [u32],
+) -> u32
+    ensures { λ r. ⌜ Session (now (kinds .entry)) (now (xs .entry)) (now (ys .entry)) (now (zs .entry))
+        (lent (now (codes .entry)) (now (numbers .entry)) (now (graph .entry)) (now (form .entry)) (now (work .entry)))
+        (lent (now (codes .exit)) (now (numbers .exit)) (now (graph .exit)) (now (form .exit)) (now (work .exit))) r ⌝ }
+{
+    if unfit(kinds, xs, ys, zs) {
+        return UNFIT;
+    }
+    let n = kinds.len();
+    if short(
+        n,
+        codes.len(),
+        numbers.len(),
+        graph.len(),
+        form.len(),
+        work.len(),
+    ) {
+        return SHORT;
+    }
+    run(
+        kinds,
+        xs,
+        ys,
+        zs,
+        &mut codes[..n],
+        &mut numbers[..n],
+        &mut graph[..entity::GRAPH_NEED],
+        &mut form[..entity::FORM_NEED],
+        &mut work[..entity::WORK_NEED],
+    );
+    0
+}
