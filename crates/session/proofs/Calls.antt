@@ -1,7 +1,7 @@
 -- Between two calls the cells show a steady state with idle stacks, so a use and a seal can run; what they leave is such a state again.
 -- Assumes nothing.
 use Prim.Native.Nat.{ℕ, zero, suc, _-_, _<_}
-use mathlib.Core.Path.{_≡_, refl, ap}
+use mathlib.Core.Path.{_≡_, ap}
 use mathlib.Core.Bool.{Bool, false}
 use mathlib.Core.Logic.{inl, inr}
 use mathlib.Core.List.{List}
@@ -10,7 +10,7 @@ use lib.ListN.{length, List·getD-eq-default}
 use native.Mathlib.Omega.{arith}
 use borrow.Author.Tests.{leb-false}
 use Rattle.definition.specs.Form.{Graph, Form}
-use Rattle.definition.specs.Session.{Done, State, Reply as Defined, no, ok, reply}
+use Rattle.definition.specs.Session.{Done, State, no, ok, reply}
 use Rattle.meaning.proofs.Steady.{steady-of}
 use Rattle.layout.proofs.Cells.{below?}
 use Rattle.layout.specs.declared.Counts.{Counts}

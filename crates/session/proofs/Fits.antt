@@ -15,7 +15,7 @@ use Rattle.definition.specs.Whole.{calls, needs, short, unfit}
 use Rattle.meaning.proofs.Maps.{eqb-eq, ltb-no, or-no, and-both, not-no}
 use Rattle.layout.specs.Outcome.{Lent, lengths, outcome, shown, past, followed-by}
 use Rattle.session.specs.Turns.{Lined}
-use Rattle.session.specs.Ends.{Exact, Leaves, Session}
+use Rattle.session.specs.Ends.{Exact, Same-lists, Ended}
 
 module _ (ks xs ys zs : List ℕ) (t : Lent) where
   -- the outcome, by the two tests
@@ -25,21 +25,21 @@ module _ (ks xs ys zs : List ℕ) (t : Lent) where
   abbrev too-short : Bool
   too-short = short (needs (length ks)) (lengths t)
 
-  meets : {u v : Lent} {r : ℕ} → outcome ks xs ys zs t ≡ (r, v) → Leaves u v → Session ks xs ys zs t u r
-  meets {u} e l = record { answer = sym (ap (λ (o : ℕ × Lent). o .0) e); leaves = subst (λ (o : ℕ × Lent). Leaves u (o .1)) (sym e) l }
+  meets : {u v : Lent} {r : ℕ} → outcome ks xs ys zs t ≡ (r, v) → Same-lists u v → Ended ks xs ys zs t u r
+  meets {u} e l = record { answer = sym (ap (λ (o : ℕ × Lent). o .0) e); leaves = subst (λ (o : ℕ × Lent). Same-lists u (o .1)) (sym e) l }
 
-  untouched : Leaves t t
+  untouched : Same-lists t t
   untouched = record { codes = refl; numbers = refl; graph = refl; form = refl; work = refl }
 
-  pub all-unfit : true ≡ unfit ks xs ys zs → Session ks xs ys zs t t 2
-  all-unfit p = meets (ap (λ (z : Bool). tested z too-short) (sym p)) untouched
+  pub all-unfit : unfit ks xs ys zs ≡ true → Ended ks xs ys zs t t 2
+  all-unfit p = meets (ap (λ (z : Bool). tested z too-short) p) untouched
 
-  pub some-short : false ≡ unfit ks xs ys zs → true ≡ short (needs (length ks)) (lengths t) → Session ks xs ys zs t t 1
-  some-short p q = meets (ap (λ (z : Bool). tested z too-short) (sym p) ∙ ap (tested false) (sym q)) untouched
+  pub some-short : unfit ks xs ys zs ≡ false → short (needs (length ks)) (lengths t) ≡ true → Ended ks xs ys zs t t 1
+  some-short p q = meets (ap (λ (z : Bool). tested z too-short) p ∙ ap (tested false) q) untouched
 
-  pub all-done : {u : Lent} → false ≡ unfit ks xs ys zs → false ≡ short (needs (length ks)) (lengths t) → Leaves u (shown (session (calls ks xs ys zs)))
-      → Session ks xs ys zs t (followed-by u (past (needs (length ks)) t)) 0
-  all-done p q l = meets (ap (λ (z : Bool). tested z too-short) (sym p) ∙ ap (tested false) (sym q)) record {
+  pub all-done : {u : Lent} → unfit ks xs ys zs ≡ false → short (needs (length ks)) (lengths t) ≡ false → Same-lists u (shown (session (calls ks xs ys zs)))
+      → Ended ks xs ys zs t (followed-by u (past (needs (length ks)) t)) 0
+  all-done p q l = meets (ap (λ (z : Bool). tested z too-short) p ∙ ap (tested false) q) record {
     codes = ap (λ (r : List ℕ). r ++ drop (length ks) (t .codes)) (l .codes);
     numbers = ap (λ (r : List ℕ). r ++ drop (length ks) (t .numbers)) (l .numbers);
     graph = ap (λ (r : List ℕ). r ++ drop (graph-need limits) (t .graph)) (l .graph);
@@ -58,15 +58,15 @@ pub record Fits (ks xs ys zs : List ℕ) (t : Lent) : Type 0 where
   pub form-fit : form-need limits ≤ length (t .form)
   pub work-fit : work-need limits ≤ length (t .work)
 
-pub fits : (ks xs ys zs : List ℕ) (t : Lent) → false ≡ unfit ks xs ys zs → false ≡ short (needs (length ks)) (lengths t) → Fits ks xs ys zs t
+pub fits : (ks xs ys zs : List ℕ) (t : Lent) → unfit ks xs ys zs ≡ false → short (needs (length ks)) (lengths t) ≡ false → Fits ks xs ys zs t
 fits ks xs ys zs t u v =
     let n = length ks in
-    let o = or-no _ (limits .calls <? n) (sym u) in
+    let o = or-no _ (limits .calls <? n) u in
     let p = and-both (length xs =? n && length ys =? n) (length zs =? n) (not-no _ (o .0)) in
     let q = and-both (length xs =? n) (length ys =? n) (p .0) in
     let l = lengths t in
     let m = needs n in
-    let w = or-no (l .codes <? m .codes || l .numbers <? m .numbers || l .graph <? m .graph || l .form <? m .form) (l .work <? m .work) (sym v) in
+    let w = or-no (l .codes <? m .codes || l .numbers <? m .numbers || l .graph <? m .graph || l .form <? m .form) (l .work <? m .work) v in
     let f = or-no (l .codes <? m .codes || l .numbers <? m .numbers || l .graph <? m .graph) (l .form <? m .form) (w .0) in
     let g = or-no (l .codes <? m .codes || l .numbers <? m .numbers) (l .graph <? m .graph) (f .0) in
     let a = or-no (l .codes <? m .codes) (l .numbers <? m .numbers) (g .0) in
@@ -83,9 +83,6 @@ fits ks xs ys zs t u v =
     }
 
 -- the first n cells are lent on, and come back
-pub counted : (n : ℕ) (l : List ℕ) → n ≤ length l → n ≡ length (take n l)
-counted n l h = sym (length-take-le n l h)
-
 pub back : (n : ℕ) (l u : List ℕ) → n ≤ length l → length u ≡ length (take n l) → length (u ++ drop n l) ≡ length l
 back n l u h e = length-append u (drop n l) ∙ omega (arith, e, length-take-le n l h, length-drop n l)
 

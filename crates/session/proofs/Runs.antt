@@ -23,7 +23,7 @@ use Rattle.layout.proofs.Cells.{render-length, render-held, holds-render}
 use Rattle.layout.proofs.Outcome.{calls-length}
 use Rattle.clear.specs.Cleared.{Long, Cleared}
 use Rattle.session.specs.Turns.{Turned, Lined, call-at}
-use Rattle.session.specs.Ends.{lent, Exact, Leaves}
+use Rattle.session.specs.Ends.{lent, Exact, Same-lists}
 
 -- ---- the calls
 
@@ -132,7 +132,7 @@ module _ {ks xs ys zs ls ns gl fl wl : List ℕ} {c : Counts} {i : ℕ} (h : Run
     filled : (l : List ℕ) → length l ≡ length ks → take (length (session all .done)) l ≡ l
     filled l e = take-all (length (session all .done)) l (omega (arith, e, h .most, past, last .turns))
 
-    pub running-end : Leaves (lent ls ns gl fl wl) (shown (session (calls ks xs ys zs)))
+    pub running-end : Same-lists (lent ls ns gl fl wl) (shown (session (calls ks xs ys zs)))
     running-end = record {
       codes = sym (filled ls (h .lined .codes-long)) ∙ last .told .codes;
       numbers = sym (filled ns (h .lined .numbers-long)) ∙ last .told .numbers;

@@ -20,8 +20,8 @@ pub record Exact (graph form work : List ℕ) : Type 0 where
   pub form-exact : length form ≡ form-need limits
   pub work-exact : length work ≡ work-need limits
 
--- two outcomes agree in each list
-pub record Leaves (t u : Lent) : Type 0 where
+-- t and u are the same, list by list
+pub record Same-lists (t u : Lent) : Type 0 where
   pub codes : t .codes ≡ u .codes
   pub numbers : t .numbers ≡ u .numbers
   pub graph : t .graph ≡ u .graph
@@ -29,6 +29,6 @@ pub record Leaves (t u : Lent) : Type 0 where
   pub work : t .work ≡ u .work
 
 -- The promise: the answer r and the lists after it are the outcome of the calls on the lists before it.
-pub record Session (ks xs ys zs : List ℕ) (before after : Lent) (r : ℕ) : Type 0 where
+pub record Ended (ks xs ys zs : List ℕ) (before after : Lent) (r : ℕ) : Type 0 where
   pub answer : r ≡ outcome ks xs ys zs before .0
-  pub leaves : Leaves after (outcome ks xs ys zs before .1)
+  pub leaves : Same-lists after (outcome ks xs ys zs before .1)

@@ -1,8 +1,8 @@
 -- What one call over the lent cells asks and promises, and one turn of the list: the call's answer is written beside those before it.
 -- Assumes nothing.
-use Prim.Native.Nat.{ℕ, suc, _+_, _≤_}
+use Prim.Native.Nat.{ℕ, _+_, _≤_}
 use mathlib.Core.Path.{_≡_}
-use mathlib.Core.List.{List, [], _∷_, map}
+use mathlib.Core.List.{List, [], map}
 use lib.ListN.{length, getD, take}
 use Rattle.entity.specs.Limits.{limits}
 use Rattle.definition.specs.Form.{Graph, Form}

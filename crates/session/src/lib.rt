@@ -1,7 +1,6 @@
 // The session: a whole list of calls over lent cells. The lengths decide whether it is run at all; if it is, the calls are run in turn.
 ghost use mathlib.Core.Path.{_≡_};
-ghost use mathlib.Core.List.{List};
-ghost use Prim.Native.Nat.{ℕ, suc, _<_};
+ghost use Prim.Native.Nat.{suc, _<_};
 ghost use lib.ListN.{length};
 ghost use Rattle.entity.specs.Limits.{limits};
 ghost use Rattle.definition.specs.Session.{State, use-var, seal, seal-all, answered, reply, step, session};
@@ -9,7 +8,7 @@ ghost use Rattle.definition.specs.Tables.{plus-one};
 ghost use Rattle.definition.specs.Whole.{calls, needs, short, unfit};
 ghost use Rattle.meaning.proofs.Sure.{Sure};
 ghost use Rattle.layout.specs.Outcome.{shown};
-ghost use Rattle.session.specs.Ends.{long, lent, Exact, Leaves, Session};
+ghost use Rattle.session.specs.Ends.{long, lent, Exact, Same-lists, Ended};
 ghost use Rattle.session.specs.Turns.{State-with, Between, Answers, Replied, next-call, Told, Turned, Lined, call-at};
 use entity::Block;
 use entity::Variable;
@@ -82,10 +81,10 @@ fn seal_all_blocks(graph: &mut [u32], form: &mut [u32], work: &mut [u32], c: Cou
     ensures { λ r. ⌜ Answers (now (graph .entry)) (now (form .entry)) (now (work .entry)) (now (graph .exit)) (now (form .exit)) (now (work .exit)) c r
         seal-all ⌝ }
 {
-    let n = form::zero_count(form);
+    let before = form::zero_count(form);
     let d = ssa::seal_all_blocks(graph, form, work, c);
-    let m = form::zero_count(form);
-    kinds::accept(m - n, d)
+    let after = form::zero_count(form);
+    kinds::accept(after - before, d)
 }
 
 // What the use at place y answered, plus one; 0 where there is no accepted use before place i.
@@ -224,7 +223,7 @@ fn run(
 )
     requires { ⌜ Lined (length (now kinds)) (now xs) (now ys) (now zs) (now codes) (now numbers) ⌝ }
     requires { ⌜ Exact (now graph) (now form) (now work) ⌝ }
-    ensures { λ r. ⌜ Leaves (lent (now (codes .exit)) (now (numbers .exit)) (now (graph .exit)) (now (form .exit)) (now (work .exit)))
+    ensures { λ r. ⌜ Same-lists (lent (now (codes .exit)) (now (numbers .exit)) (now (graph .exit)) (now (form .exit)) (now (work .exit)))
         (shown (session (calls (now (kinds .entry)) (now (xs .entry)) (now (ys .entry)) (now (zs .entry))))) ⌝ }
 {
     clear::clear(graph, form, work);
@@ -254,7 +253,7 @@ pub fn session(
     form: &mut [u32],
     work: &mut [u32],
 ) -> u32
-    ensures { λ r. ⌜ Session (now (kinds .entry)) (now (xs .entry)) (now (ys .entry)) (now (zs .entry))
+    ensures { λ r. ⌜ Ended (now (kinds .entry)) (now (xs .entry)) (now (ys .entry)) (now (zs .entry))
         (lent (now (codes .entry)) (now (numbers .entry)) (now (graph .entry)) (now (form .entry)) (now (work .entry)))
         (lent (now (codes .exit)) (now (numbers .exit)) (now (graph .exit)) (now (form .exit)) (now (work .exit))) r ⌝ }
 {

@@ -17,8 +17,9 @@ returns-3 c = λ t h e. refused-use h (omega (arith, c .before .before .before .
 
 add-result : tie.Need-add-result
 add-result c =
-    let p = c .before .before .before .before .before .before .pre .1 in
-    omega (arith, answer-small (p .0) (p .1 .0) _ _ (the-use (p .1 .1) (omega (arith, c .before .before .before .before .before .if1 .left, p .1 .2)) (c .before .before .before .if2 .left) (c .before .if3 .left)))
+    let e1 = c .before .before .before .before .before in
+    let p = e1 .before .pre .1 in
+    omega (arith, answer-small (p .0) (p .1 .0) _ _ (the-use (p .1 .1) (omega (arith, e1 .if1 .left, p .1 .2)) (c .before .before .before .if2 .left) (c .before .if3 .left)))
 
 returns-4 : tie.Need-returns-4
 returns-4 c = λ t h e. its-answer h (omega (arith, c .before .before .before .before .before .if1 .left, e)) (c .before .before .before .if2 .left) (c .before .if3 .left)

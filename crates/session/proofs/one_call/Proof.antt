@@ -10,7 +10,9 @@ declare-block-requires : tie.Need-declare-block-requires
 declare-block-requires c κs = ready (c .before .before .before .before .before .before .pre)
 
 returns : tie.Need-returns
-returns c = λ t e h. rw (c .before .before .before .before .before .before .before .match .keys1) record { replies = c .before .before .before .before .declare-block .ensures t (h .showing); idle = h .idle }
+returns c =
+    let e1 = c .before .before .before .before in
+    λ t e h. rw (e1 .before .before .before .match .keys1) record { replies = e1 .declare-block .ensures t (h .showing); idle = h .idle }
 
 declare-var-requires : tie.Need-declare-var-requires
 declare-var-requires c κs = (_, ready (c .before .before .before .before .before .pre))
@@ -43,7 +45,9 @@ new-branch-requires : tie.Need-new-branch-requires
 new-branch-requires c κs = ready (c .before .before .before .before .before .before .pre)
 
 returns-7 : tie.Need-returns-7
-returns-7 c = λ t e h. rw (c .before .before .before .before .before .before .before .match .keys7) record { replies = c .before .before .before .before .new-branch .ensures t (h .showing); idle = h .idle }
+returns-7 c =
+    let e1 = c .before .before .before .before in
+    λ t e h. rw (e1 .before .before .before .match .keys7) record { replies = e1 .new-branch .ensures t (h .showing); idle = h .idle }
 
 new-dest-requires : tie.Need-new-dest-requires
 new-dest-requires c κs = (_, ready (c .before .before .before .before .before .pre))
@@ -64,10 +68,16 @@ returns-10 : tie.Need-returns-10
 returns-10 c = λ t e h. rw (c .before .before .before .before .match .keys10) record { replies = c .before .before .drop-pred .ensures _ t (h .showing); idle = h .idle }
 
 returns-11 : tie.Need-returns-11
-returns-11 c = λ t e h. rw (c .before .before .before .before .before .before .before .before .before .before .match .keys11) (c .before .before .before .before .before .before .seal-block .ensures t h)
+returns-11 c =
+    let e2 = c .before .before .before .before .before .before in
+    let e1 = e2 .before .before .before .before in
+    λ t e h. rw (e1 .match .keys11) (e2 .seal-block .ensures t h)
 
 returns-12 : tie.Need-returns-12
-returns-12 c = λ t e h. rw (c .before .before .before .before .before .before .before .before .before .before .match .keys12) (c .before .before .before .before .before .before .seal-all-blocks .ensures t h)
+returns-12 c =
+    let e2 = c .before .before .before .before .before .before in
+    let e1 = e2 .before .before .before .before in
+    λ t e h. rw (e1 .match .keys12) (e2 .seal-all-blocks .ensures t h)
 
 has-any-predecessors-requires : tie.Need-has-any-predecessors-requires
 has-any-predecessors-requires c κs = (_, ready (c .before .before .before .before .before .pre))
@@ -82,7 +92,9 @@ returns-14 : tie.Need-returns-14
 returns-14 c = λ t e h. rw (c .before .before .match .keys14) record { replies = c .is-sealed .ensures _ t (h .showing); idle = h .idle }
 
 returns-15 : tie.Need-returns-15
-returns-15 c = λ t e h. rw (unknown (t .graph) (t .form) (t .done) (c .before .before .before .before .before .args .x) (c .before .before .before .before .before .args .y) (c .before .before .before .before .before .args .z) (c .before .before .before .before .before .args .kind) (c .before .match .rest)) (turned-down h (c .refuse .ensures))
+returns-15 c =
+    let e1 = c .before .before .before .before .before in
+    λ t e h. rw (unknown (t .graph) (t .form) (t .done) (e1 .args .x) (e1 .args .y) (e1 .args .z) (e1 .args .kind) (c .before .match .rest)) (turned-down h (c .refuse .ensures))
 
 pub one-call-spec : {M : Type 1} → statement M
 one-call-spec =

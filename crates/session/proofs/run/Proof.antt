@@ -18,15 +18,22 @@ clear-requires : tie.Need-clear-requires Inv-loop μ-loop
 clear-requires c κs = long (c .before .before .before .before .before .before .before .before .before .before .before .before .pre .1)
 
 loop-holds : tie.Need-loop-holds Inv-loop μ-loop
-loop-holds c = running-start (c .before .before .before .before .before .before .before .before .before .before .before .before .before .before .before .before .before .before .before .pre .1) (c .before .before .before .before .before .before .clear .ensures) (c .before .before .before .before .before .before .before .before .before .before .before .before .before .before .before .before .before .before .before .pre .0)
+loop-holds c =
+    let e2 = c .before .before .before .before .before .before in
+    let e1 = e2 .before .before .before .before .before .before .before .before .before .before .before .before .before in
+    running-start (e1 .pre .1) (e2 .clear .ensures) (e1 .pre .0)
 
 turn-requires : tie.Need-turn-requires Inv-loop μ-loop
-turn-requires c κs = let h = c .before .before .before .before .before .before .loop .inv in (c .before .before .before .before .before .loop-test .taken, (h .lined, (_, h .turned)))
+turn-requires c κs =
+    let e1 = c .before .before .before .before .before in
+    let h = e1 .before .loop .inv in (e1 .loop-test .taken, (h .lined, (_, h .turned)))
 
 loop-again : tie.Need-loop-again Inv-loop μ-loop
 loop-again c =
-    let h = c .before .before .before .before .before .before .before .before .before .before .before .before .before .before .before .before .before .loop .inv in
-    running-next h (c .before .before .before .before .before .before .before .before .before .before .before .before .before .before .before .before .loop-test .taken) (c .before .before .before .before .before .before .before .before .before .before .turn .kept .1 .1 .1 .1 .0) (c .before .before .before .before .before .before .before .before .before .before .turn .kept .1 .1 .1 .1 .1 .0) (c .before .before .before .before .before .before .before .before .before .before .turn .kept .1 .1 .1 .1 .1 .1 .0) (c .before .before .before .before .before .before .before .before .before .before .turn .kept .1 .1 .1 .1 .1 .1 .1 .0) (c .before .before .before .before .before .before .before .before .before .before .turn .kept .1 .1 .1 .1 .1 .1 .1 .1 .0) (c .before .before .before .before .before .before .before .before .before .before .turn .ensures _ (h .turned))
+    let e2 = c .before .before .before .before .before .before .before .before .before .before in
+    let e1 = e2 .before .before .before .before .before .before in
+    let h = e1 .before .loop .inv in
+    running-next h (e1 .loop-test .taken) (e2 .turn .kept .1 .1 .1 .1 .0) (e2 .turn .kept .1 .1 .1 .1 .1 .0) (e2 .turn .kept .1 .1 .1 .1 .1 .1 .0) (e2 .turn .kept .1 .1 .1 .1 .1 .1 .1 .0) (e2 .turn .kept .1 .1 .1 .1 .1 .1 .1 .1 .0) (e2 .turn .ensures _ (h .turned))
 
 same-length : tie.Need-same-length Inv-loop μ-loop
 same-length c = c .before .loop .inv .lined .codes-long ∙ sym (c .before .before .before .before .before .before .before .before .before .before .before .before .before .before .before .before .before .before .before .before .before .pre .0 .codes-long)

@@ -13,18 +13,27 @@ seal-all-blocks-requires : tie.Need-seal-all-blocks-requires
 seal-all-blocks-requires c κs = (_, _, at-rest (c .before .before .before .before .before .before .before .before .pre .1))
 
 zero-count-requires-2 : tie.Need-zero-count-requires-2
-zero-count-requires-2 c κs = let p = c .before .before .before .before .before .before .before .before .before .before .before .before .before .before .before .before .pre in (seal-each (upFrom 0 (p .0 .graph .blocks)) (p .0 .graph) (p .0 .form) .1, c .before .before .before .before .before .before .before .seal-all-blocks .ensures _ _ (at-rest (p .1)) .shown .form .cells)
+zero-count-requires-2 c κs =
+    let e2 = c .before .before .before .before .before .before .before in
+    let e1 = e2 .before .before .before .before .before .before .before .before .before in
+    let p = e1 .pre in (seal-each (upFrom 0 (p .0 .graph .blocks)) (p .0 .graph) (p .0 .form) .1, e2 .seal-all-blocks .ensures _ _ (at-rest (p .1)) .shown .form .cells)
 
 sub-accept : tie.Need-sub-accept
 sub-accept c =
-    let p = c .before .before .before .before .before .before .before .before .before .before .before .before .before .before .before .before .before .pre in
-    let u = c .before .before .before .before .before .before .before .before .seal-all-blocks .ensures _ _ (at-rest (p .1)) in
-    omega (arith, c .before .before .before .before .before .before .before .before .before .before .before .before .zero-count .ensures (p .0 .form) (cells-of (p .1)), c .zero-count2 .ensures (seal-each (upFrom 0 (p .0 .graph .blocks)) (p .0 .graph) (p .0 .form) .1) (u .shown .form .cells), each-more (upFrom 0 (p .0 .graph .blocks)) (p .0 .graph) (p .0 .form))
+    let e3 = c .before .before .before .before .before .before .before .before in
+    let e2 = e3 .before .before .before .before in
+    let e1 = e2 .before .before .before .before .before in
+    let p = e1 .pre in
+    let u = e3 .seal-all-blocks .ensures _ _ (at-rest (p .1)) in
+    omega (arith, e2 .zero-count .ensures (p .0 .form) (cells-of (p .1)), c .zero-count2 .ensures (seal-each (upFrom 0 (p .0 .graph .blocks)) (p .0 .graph) (p .0 .form) .1) (u .shown .form .cells), each-more (upFrom 0 (p .0 .graph .blocks)) (p .0 .graph) (p .0 .form))
 
 returns : tie.Need-returns
-returns c = λ t h.
-    let u = c .before .before .before .before .before .before .before .before .before .seal-all-blocks .ensures _ _ (at-rest h) in
-    taken-on (c .accept .ensures) (difference (c .before .zero-count2 .ensures (seal-each (upFrom 0 (t .graph .blocks)) (t .graph) (t .form) .1) (u .shown .form .cells)) (c .before .before .before .before .before .before .before .before .before .before .before .before .before .zero-count .ensures (t .form) (cells-of h))) u
+returns c =
+    let e2 = c .before .before .before .before .before .before .before .before .before in
+    let e1 = e2 .before .before .before .before in
+    λ t h.
+    let u = e2 .seal-all-blocks .ensures _ _ (at-rest h) in
+    taken-on (c .accept .ensures) (difference (c .before .zero-count2 .ensures (seal-each (upFrom 0 (t .graph .blocks)) (t .graph) (t .form) .1) (u .shown .form .cells)) (e1 .zero-count .ensures (t .form) (cells-of h))) u
 
 pub seal-all-blocks-spec : {M : Type 1} → statement M
 seal-all-blocks-spec =

@@ -19,33 +19,51 @@ is-sealed-requires : tie.Need-is-sealed-requires
 is-sealed-requires c κs = (seen-some (c .before .before .before .before .before .before .before .pre), c .before .before .no-block .ensures .0 (c .before .if1 .left))
 
 returns-2 : tie.Need-returns-2
-returns-2 c = λ t h.
-    rw (tested (c .before .before .before .before .before .no-block .ensures .1 _ (t .form) (seen-of h)) (c .before .before .before .before .if1 .left), tested (c .before .before .is-sealed .ensures _ (seen-of h)) (c .before .if2 .taken))
+returns-2 c =
+    let e1 = c .before .before .before .before in
+    λ t h.
+    rw (tested (e1 .before .no-block .ensures .1 _ (t .form) (seen-of h)) (e1 .if1 .left), tested (c .before .before .is-sealed .ensures _ (seen-of h)) (c .before .if2 .taken))
     (turned-down h (c .refuse2 .ensures))
 
 seal-one-block-requires : tie.Need-seal-one-block-requires
-seal-one-block-requires c κs = let p = c .before .before .before .before .before .before .before .before .before .before .before .before .before .before .pre in (_, _, seal-can (p .1) (named (c .before .before .before .before .before .before .before .before .before .no-block .ensures .1 _ (p .0 .form) (seen-of (p .1))) (c .before .before .before .before .before .before .before .before .if1 .left)))
+seal-one-block-requires c κs =
+    let e2 = c .before .before .before .before .before .before .before .before in
+    let e1 = e2 .before .before .before .before .before .before in
+    let p = e1 .pre in (_, _, seal-can (p .1) (named (e2 .before .no-block .ensures .1 _ (p .0 .form) (seen-of (p .1))) (e2 .if1 .left)))
 
 zero-count-requires-2 : tie.Need-zero-count-requires-2
 zero-count-requires-2 c κs =
-    let p = c .before .before .before .before .before .before .before .before .before .before .before .before .before .before .before .before .before .before .before .before .before .before .pre in
-    let b = named (c .before .before .before .before .before .before .before .before .before .before .before .before .before .before .before .before .before .no-block .ensures .1 _ (p .0 .form) (seen-of (p .1))) (c .before .before .before .before .before .before .before .before .before .before .before .before .before .before .before .before .if1 .left) in
-    (seal-form (p .0 .graph) (p .0 .form) (c .before .before .before .before .before .before .before .before .before .before .before .before .before .before .before .before .before .before .before .before .before .before .args .x), c .before .before .before .before .before .before .before .seal-one-block .ensures _ _ (seal-can (p .1) b) .first (tested (c .before .before .before .before .before .before .before .before .before .before .before .before .before .before .is-sealed .ensures _ (seen-of (p .1))) (c .before .before .before .before .before .before .before .before .before .before .before .before .before .if2 .left)) .shown .form .cells)
+    let e4 = c .before .before .before .before .before .before .before in
+    let e3 = e4 .before .before .before .before .before .before in
+    let e2 = e3 .before .before .before .before in
+    let e1 = e2 .before .before .before .before .before in
+    let p = e1 .pre in
+    let b = named (e2 .no-block .ensures .1 _ (p .0 .form) (seen-of (p .1))) (e3 .before .before .before .if1 .left) in
+    (seal-form (p .0 .graph) (p .0 .form) (e1 .args .x), e4 .seal-one-block .ensures _ _ (seal-can (p .1) b) .first (tested (e3 .before .is-sealed .ensures _ (seen-of (p .1))) (e3 .if2 .left)) .shown .form .cells)
 
 sub-accept : tie.Need-sub-accept
 sub-accept c =
-    let p = c .before .before .before .before .before .before .before .before .before .before .before .before .before .before .before .before .before .before .before .before .before .before .before .pre in
-    let b = named (c .before .before .before .before .before .before .before .before .before .before .before .before .before .before .before .before .before .before .no-block .ensures .1 _ (p .0 .form) (seen-of (p .1))) (c .before .before .before .before .before .before .before .before .before .before .before .before .before .before .before .before .before .if1 .left) in
-    let u = c .before .before .before .before .before .before .before .before .seal-one-block .ensures _ _ (seal-can (p .1) b) .first (tested (c .before .before .before .before .before .before .before .before .before .before .before .before .before .before .before .is-sealed .ensures _ (seen-of (p .1))) (c .before .before .before .before .before .before .before .before .before .before .before .before .before .before .if2 .left)) in
-    omega (arith, c .before .before .before .before .before .before .before .before .before .before .before .before .zero-count .ensures (p .0 .form) (cells-of (p .1)), c .zero-count2 .ensures (seal-form (p .0 .graph) (p .0 .form) (c .before .before .before .before .before .before .before .before .before .before .before .before .before .before .before .before .before .before .before .before .before .before .before .args .x)) (u .shown .form .cells), seal-more (p .0 .graph) (p .0 .form) (c .before .before .before .before .before .before .before .before .before .before .before .before .before .before .before .before .before .before .before .before .before .before .before .args .x))
+    let e4 = c .before .before .before .before .before .before .before .before in
+    let e3 = e4 .before .before .before .before in
+    let e2 = e3 .before .before .before .before .before in
+    let e1 = e2 .before .before .before .before .before .before in
+    let p = e1 .pre in
+    let b = named (e2 .before .no-block .ensures .1 _ (p .0 .form) (seen-of (p .1))) (e2 .if1 .left) in
+    let u = e4 .seal-one-block .ensures _ _ (seal-can (p .1) b) .first (tested (e3 .before .before .before .is-sealed .ensures _ (seen-of (p .1))) (e3 .before .before .if2 .left)) in
+    omega (arith, e3 .zero-count .ensures (p .0 .form) (cells-of (p .1)), c .zero-count2 .ensures (seal-form (p .0 .graph) (p .0 .form) (e1 .args .x)) (u .shown .form .cells), seal-more (p .0 .graph) (p .0 .form) (e1 .args .x))
 
 returns-3 : tie.Need-returns-3
-returns-3 c = λ t h.
-    let b = c .before .before .before .before .before .before .before .before .before .before .before .before .before .before .before .before .before .before .before .no-block .ensures .1 _ (t .form) (seen-of h) in
-    let e = tested (c .before .before .before .before .before .before .before .before .before .before .before .before .before .before .before .before .is-sealed .ensures _ (seen-of h)) (c .before .before .before .before .before .before .before .before .before .before .before .before .before .before .before .if2 .left) in
-    let u = c .before .before .before .before .before .before .before .before .before .seal-one-block .ensures _ _ (seal-can h (named b (c .before .before .before .before .before .before .before .before .before .before .before .before .before .before .before .before .before .before .if1 .left))) .first e in
-    rw (tested b (c .before .before .before .before .before .before .before .before .before .before .before .before .before .before .before .before .before .before .if1 .left), e)
-    (taken-on (c .accept .ensures) (difference (c .before .zero-count2 .ensures (seal-form (t .graph) (t .form) (c .before .before .before .before .before .before .before .before .before .before .before .before .before .before .before .before .before .before .before .before .before .before .before .before .args .x)) (u .shown .form .cells)) (c .before .before .before .before .before .before .before .before .before .before .before .before .before .zero-count .ensures (t .form) (cells-of h))) u)
+returns-3 c =
+    let e4 = c .before .before .before .before .before .before .before .before .before in
+    let e3 = e4 .before .before .before .before in
+    let e2 = e3 .before .before .before .before .before in
+    let e1 = e2 .before .before .before .before .before .before in
+    λ t h.
+    let b = e2 .before .no-block .ensures .1 _ (t .form) (seen-of h) in
+    let e = tested (e3 .before .before .before .is-sealed .ensures _ (seen-of h)) (e3 .before .before .if2 .left) in
+    let u = e4 .seal-one-block .ensures _ _ (seal-can h (named b (e2 .if1 .left))) .first e in
+    rw (tested b (e2 .if1 .left), e)
+    (taken-on (c .accept .ensures) (difference (c .before .zero-count2 .ensures (seal-form (t .graph) (t .form) (e1 .args .x)) (u .shown .form .cells)) (e3 .zero-count .ensures (t .form) (cells-of h))) u)
 
 pub seal-block-spec : {M : Type 1} → statement M
 seal-block-spec =

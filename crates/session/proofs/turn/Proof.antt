@@ -26,15 +26,22 @@ slice-write-numbers c = let p = c .before .before .before .before .before .befor
 
 next-call-requires : tie.Need-next-call-requires
 next-call-requires c κs =
-    let p = c .before .before .before .before .before .before .before .before .before .before .before .before .before .before .before .before .before .before .before .before .before .before .before .before .before .before .before .pre in
+    let e3 = c .before .before .before .before .before .before .before in
+    let e2 = e3 .before .before .before .before .before .before .before in
+    let e1 = e2 .before .before .before .before .before .before .before .before .before .before .before .before .before in
+    let p = e1 .pre in
     let t = p .1 .1 .0 in
     let h = p .1 .1 .1 in
-    call-small h (p .0) (p .1 .0) (c .before .before .before .before .before .before .before .one-call .ensures t (c .before .before .before .before .before .before .before .before .before .before .before .before .before .before .answered .ensures t (h .told) (h .turns)) (h .between))
+    call-small h (p .0) (p .1 .0) (e3 .one-call .ensures t (e2 .answered .ensures t (h .told) (h .turns)) (h .between))
 
 returns : tie.Need-returns
-returns c = λ t h.
-    let p = c .before .before .before .before .before .before .before .before .before .before .before .before .before .before .before .before .before .before .before .before .before .before .before .before .before .before .before .before .pre in
-    turned-next h (p .0) (p .1 .0) (c .before .before .before .before .before .before .before .before .one-call .ensures t (c .before .before .before .before .before .before .before .before .before .before .before .before .before .before .before .answered .ensures t (h .told) (h .turns)) (h .between)) (c .next-call .ensures)
+returns c =
+    let e3 = c .before .before .before .before .before .before .before .before in
+    let e2 = e3 .before .before .before .before .before .before .before in
+    let e1 = e2 .before .before .before .before .before .before .before .before .before .before .before .before .before in
+    λ t h.
+    let p = e1 .pre in
+    turned-next h (p .0) (p .1 .0) (e3 .one-call .ensures t (e2 .answered .ensures t (h .told) (h .turns)) (h .between)) (c .next-call .ensures)
 
 pub turn-spec : {M : Type 1} → statement M
 turn-spec =

@@ -1,24 +1,23 @@
 -- `unfit` meets its contract: it makes the definition's tests in their order.
 -- Assumes nothing.
-use lib.ListN.{length}
 use borrow.Author.Tests.{eq-eqb, ne-eqb}
 use borrow.Author.Needs.{needs}
 use Rattle.session.proofs.unfit.Statement.{statement}
 use Rattle.session.proofs.unfit.Tie as tie
 
 returns : tie.Need-returns
-returns c = rw (ne-eqb (length (c .before .args .xs .now)) (length (c .before .args .kinds .now)) (c .if1 .taken))
+returns c = rw (ne-eqb _ _ (c .if1 .taken))
 
 returns-2 : tie.Need-returns-2
-returns-2 c = rw (eq-eqb (length (c .before .before .args .xs .now)) (length (c .before .before .args .kinds .now)) (c .before .if1 .left), ne-eqb (length (c .before .before .args .ys .now)) (length (c .before .before .args .kinds .now)) (c .if2 .taken))
+returns-2 c = rw (eq-eqb _ _ (c .before .if1 .left), ne-eqb _ _ (c .if2 .taken))
 
 returns-3 : tie.Need-returns-3
 returns-3 c =
-    rw (eq-eqb (length (c .before .before .before .args .xs .now)) (length (c .before .before .before .args .kinds .now)) (c .before .before .if1 .left), eq-eqb (length (c .before .before .before .args .ys .now)) (length (c .before .before .before .args .kinds .now)) (c .before .if2 .left), ne-eqb (length (c .before .before .before .args .zs .now)) (length (c .before .before .before .args .kinds .now)) (c .if3 .taken))
+    rw (eq-eqb _ _ (c .before .before .if1 .left), eq-eqb _ _ (c .before .if2 .left), ne-eqb _ _ (c .if3 .taken))
 
 returns-4 : tie.Need-returns-4
 returns-4 c =
-    rw (eq-eqb (length (c .before .before .before .args .xs .now)) (length (c .before .before .before .args .kinds .now)) (c .before .before .if1 .left), eq-eqb (length (c .before .before .before .args .ys .now)) (length (c .before .before .before .args .kinds .now)) (c .before .if2 .left), eq-eqb (length (c .before .before .before .args .zs .now)) (length (c .before .before .before .args .kinds .now)) (c .if3 .left))
+    rw (eq-eqb _ _ (c .before .before .if1 .left), eq-eqb _ _ (c .before .if2 .left), eq-eqb _ _ (c .if3 .left))
 
 pub unfit-spec : {M : Type 1} → statement M
 unfit-spec = tie.close (tie.spec

@@ -22,15 +22,20 @@ returns-2 c = λ t h.
 
 use-var-requires : tie.Need-use-var-requires
 use-var-requires c κs =
-    let p = c .before .before .before .before .before .before .before .before .before .pre in
-    (_, _, read-can (p .1) (named (c .before .before .before .before .before .no-var .ensures .1 _ (p .0 .form) (seen-of (p .1))) (c .before .before .before .before .if1 .left)) (named (c .before .before .before .no-block .ensures .1 _ (p .0 .form) (seen-of (p .1))) (c .before .before .if2 .left)))
+    let e2 = c .before .before .before .before in
+    let e1 = e2 .before .before .before .before .before in
+    let p = e1 .pre in
+    (_, _, read-can (p .1) (named (e2 .before .no-var .ensures .1 _ (p .0 .form) (seen-of (p .1))) (e2 .if1 .left)) (named (c .before .before .before .no-block .ensures .1 _ (p .0 .form) (seen-of (p .1))) (c .before .before .if2 .left)))
 
 returns-3 : tie.Need-returns-3
-returns-3 c = λ t h.
-    let v = c .before .before .before .before .before .before .before .before .before .before .before .before .before .no-var .ensures .1 _ (t .form) (seen-of h) in
-    let b = c .before .before .before .before .before .before .before .before .before .before .before .no-block .ensures .1 _ (t .form) (seen-of h) in
-    let u = c .before .before .before .before .before .before .before .use-var .ensures _ _ (read-can h (named v (c .before .before .before .before .before .before .before .before .before .before .before .before .if1 .left)) (named b (c .before .before .before .before .before .before .before .before .before .before .if2 .left))) in
-    rw (tested v (c .before .before .before .before .before .before .before .before .before .before .before .before .if1 .left), tested b (c .before .before .before .before .before .before .before .before .before .before .if2 .left)) (taken-on (c .accept .ensures) (u .val) (u .rest))
+returns-3 c =
+    let e2 = c .before .before .before .before .before .before .before in
+    let e1 = e2 .before .before .before .before in
+    λ t h.
+    let v = e1 .before .before .no-var .ensures .1 _ (t .form) (seen-of h) in
+    let b = e1 .no-block .ensures .1 _ (t .form) (seen-of h) in
+    let u = e2 .use-var .ensures _ _ (read-can h (named v (e1 .before .if1 .left)) (named b (e2 .before .before .before .if2 .left))) in
+    rw (tested v (e1 .before .if1 .left), tested b (e2 .before .before .before .if2 .left)) (taken-on (c .accept .ensures) (u .val) (u .rest))
 
 pub use-var-spec : {M : Type 1} → statement M
 use-var-spec =
