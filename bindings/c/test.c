@@ -1,0 +1,61 @@
+/* Two branches give a reading different values; after the join a parameter stands for it. Then the refusals of a whole session, and resolving. */
+#include "sangvireb.h"
+#include <stdio.h>
+#include <string.h>
+
+static uint32_t graph[SANGVIREB_GRAPH_NEED + 1], form[SANGVIREB_FORM_NEED + 1], work[SANGVIREB_WORK_NEED + 1];
+static int failures;
+
+static void expect(int holds, const char *what) {
+    if (!holds) {
+        printf("not so: %s\n", what);
+        failures++;
+    }
+}
+
+int main(void) {
+    /* case C: a diamond 0 to 1, 2 to 3; value 0 in block 1, value 1 in block 2; use in 3 */
+    static const uint32_t calls[][4] = {
+        {1, 0, 0, 0}, {1, 1, 0, 0}, {1, 2, 0, 0}, {1, 3, 0, 0}, {2, 0, 2, 0}, {3, 1, 2, 0}, {4, 0, 0, 1}, {3, 2, 2, 0},
+        {4, 0, 1, 2}, {7, 0, 0, 0}, {8, 0, 1, 0}, {8, 0, 2, 0}, {9, 1, 0, 0}, {9, 2, 0, 0}, {7, 1, 0, 0}, {8, 1, 3, 0},
+        {9, 3, 1, 0}, {7, 2, 0, 0}, {8, 2, 3, 0}, {9, 3, 2, 0}, {12, 0, 0, 0}, {6, 0, 3, 0}, {6, 9, 3, 0}};
+    enum { N = sizeof calls / sizeof calls[0] };
+    uint32_t k[N], x[N], y[N], z[N], codes[N], numbers[N];
+    for (size_t i = 0; i < N; i++) {
+        k[i] = calls[i][0], x[i] = calls[i][1], y[i] = calls[i][2], z[i] = calls[i][3];
+    }
+    memset(graph, 0xa5, sizeof graph), memset(form, 0xa5, sizeof form), memset(work, 0xa5, sizeof work);
+
+    uint32_t r = sangvireb_session(k, N, x, N, y, N, z, N, codes, N, numbers, N, graph, SANGVIREB_GRAPH_NEED, form,
+                                   SANGVIREB_FORM_NEED - 1, work, SANGVIREB_WORK_NEED);
+    expect(r == SANGVIREB_SHORT && form[0] == 0xa5a5a5a5, "a form one cell short gets 1 and is untouched");
+    r = sangvireb_session(k, N, x, N - 1, y, N, z, N, codes, N, numbers, N, graph, SANGVIREB_GRAPH_NEED, form,
+                          SANGVIREB_FORM_NEED, work, SANGVIREB_WORK_NEED);
+    expect(r == SANGVIREB_UNFIT && graph[0] == 0xa5a5a5a5, "lists of different lengths get 2 and all is untouched");
+
+    r = sangvireb_session(k, N, x, N, y, N, z, N, codes, N, numbers, N, graph, SANGVIREB_GRAPH_NEED + 1, form,
+                          SANGVIREB_FORM_NEED + 1, work, SANGVIREB_WORK_NEED + 1);
+    expect(r == SANGVIREB_RUN, "the session runs");
+    expect(codes[N - 2] == 0 && numbers[N - 2] == 2, "the use after the join answers the parameter, value 2");
+    expect(codes[N - 1] == SANGVIREB_ABSENT && numbers[N - 1] == 0, "an unknown variable gets 6 and number 0");
+    const uint32_t *params = form + SANGVIREB_PARAM_ROWS + 3 * SANGVIREB_PARAM_ROW;
+    expect(params[0] == 1 && params[1] == 2, "block 3 has the parameter 2");
+    for (uint32_t p = 1; p <= 2; p++) {
+        const uint32_t *args = form + SANGVIREB_ARG_ROWS + p * SANGVIREB_DESTS * SANGVIREB_PARAM_ROW;
+        expect(args[0] == 1 && args[1] == p - 1, "each side passes its own value");
+    }
+    expect(work[0] == 0 && work[SANGVIREB_WORK_NEED - 1] == 0, "work cells end as 0");
+    expect(form[SANGVIREB_FORM_NEED] == 0xa5a5a5a5, "cells past the need keep what they held");
+
+    const uint32_t targets[] = {1, 2, 2, 4, 3, 9};
+    sangvireb_answer a = sangvireb_resolve(targets, 6, 0);
+    expect(a.code == 0 && a.number == 2, "0 resolves to 2");
+    a = sangvireb_resolve(targets, 6, 3);
+    expect(a.code == SANGVIREB_NO_END && a.number == 0, "a ring gets 14");
+    a = sangvireb_resolve(targets, 6, 5);
+    expect(a.code == SANGVIREB_NO_END && a.number == 0, "a target outside gets 14");
+    a = sangvireb_resolve(targets, 6, 6);
+    expect(a.code == SANGVIREB_ABSENT && a.number == 0, "a number past the list gets 6");
+    printf("%s\n", failures ? "failed" : "all as expected");
+    return failures != 0;
+}
