@@ -17,7 +17,7 @@ use Rattle.layout.specs.declared.Counts.{Counts}
 use Rattle.graph.specs.Seen.{Graph-with, Seen}
 use Rattle.form.specs.Can.{Ex, Cells}
 use Rattle.kinds.specs.declared.Reply.{Reply}
-use Rattle.kinds.specs.Replies.{Ready, refusal, acceptance}
+use Rattle.kinds.specs.Replies.{Some-state, refusal, acceptance}
 use Rattle.kinds.proofs.Asked.{seen}
 use Rattle.kinds.proofs.Answered.{tested, refused, accepted}
 use Rattle.ssa.specs.Use.{At-rest, Can-read, Can-seal}
@@ -57,7 +57,7 @@ taken-on e same l = record {
 }
 
 module _ {gl fl wl : List ℕ} {c : Counts} (p : State-with (Between gl fl wl c)) where
-  pub ready : Ready gl fl c
+  pub ready : Some-state gl fl c
   ready = (p .0, p .1 .showing)
 
   pub seen-some : Graph-with (Seen gl)
