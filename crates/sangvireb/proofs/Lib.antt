@@ -1,0 +1,2 @@
+-- The laws that the proofs of the program share. Assumes nothing.
+pub mod Parts

@@ -1,0 +1,22 @@
+-- `answers` is safe and ends. Each call is one turn.
+-- Assumes nothing.
+use borrow.Author.Needs.{needs}
+use Prim.Native.Nat.{_-_}
+use mathlib.Core.Path.{_≡_}
+use lib.ListN.{length}
+use Rattle.sangvireb.proofs.dump.answers.Statement.{statement}
+use Rattle.sangvireb.proofs.dump.answers.Tie as tie
+
+abbrev Inv-loop : tie.InvT-loop
+Inv-loop out₀ n codes numbers k m₀ i₀ out m i = (length out ≡ length out₀)
+
+abbrev μ-loop : tie.MeasureT-loop
+μ-loop out₀ n codes numbers k m₀ i₀ out m i = k - i
+
+pub answers-spec : {M : Type 1} → statement M
+answers-spec =
+    tie.close
+    (tie.spec
+    Inv-loop μ-loop (λ c. search needs) (λ c κs. search needs) (λ c κs. search needs) (λ c κs. search needs)
+    (λ c κs. search needs) (λ c κs. search needs) (λ c κs. search needs) (λ c. search needs) (λ c. search needs)
+    (λ c. search needs) (λ c. search needs) (λ c. search needs))

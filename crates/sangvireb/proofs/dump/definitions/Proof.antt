@@ -1,0 +1,21 @@
+-- `definitions` is safe and ends. Each variable is one turn.
+-- Assumes nothing.
+use borrow.Author.Needs.{needs}
+use Prim.Native.Nat.{_-_}
+use mathlib.Core.Path.{_≡_}
+use lib.ListN.{length}
+use Rattle.sangvireb.proofs.dump.definitions.Statement.{statement}
+use Rattle.sangvireb.proofs.dump.definitions.Tie as tie
+
+abbrev Inv-loop : tie.InvT-loop
+Inv-loop out₀ n form i k m₀ j₀ out m j = (length out ≡ length out₀)
+
+abbrev μ-loop : tie.MeasureT-loop
+μ-loop out₀ n form i k m₀ j₀ out m j = k - j
+
+pub definitions-spec : {M : Type 1} → statement M
+definitions-spec =
+    tie.close
+    (tie.spec
+    Inv-loop μ-loop (λ c. search needs) (λ c κs. search needs) (λ c. search needs) (λ c. search needs) (λ c. search needs)
+    (λ c. search needs) (λ c. search needs))

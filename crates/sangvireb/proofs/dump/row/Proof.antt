@@ -1,0 +1,22 @@
+-- `row` is safe and ends. Each entry of the row is one turn, and every cell is read under a test.
+-- Assumes nothing.
+use borrow.Author.Needs.{needs}
+use Prim.Native.Nat.{_-_}
+use mathlib.Core.Path.{_≡_}
+use lib.ListN.{length}
+use Rattle.sangvireb.proofs.dump.row.Statement.{statement}
+use Rattle.sangvireb.proofs.dump.row.Tie as tie
+
+abbrev Inv-loop : tie.InvT-loop
+Inv-loop out₀ n t at k m₀ i₀ out m i = (length out ≡ length out₀)
+
+abbrev μ-loop : tie.MeasureT-loop
+μ-loop out₀ n t at k m₀ i₀ out m i = k - i
+
+pub row-spec : {M : Type 1} → statement M
+row-spec =
+    tie.close
+    (tie.spec
+    Inv-loop μ-loop (λ c κs. search needs) (λ c. search needs) (λ c. search needs) (λ c κs. search needs)
+    (λ c κs. search needs) (λ c. search needs) (λ c. search needs) (λ c. search needs) (λ c κs. search needs)
+    (λ c. search needs) (λ c. search needs))

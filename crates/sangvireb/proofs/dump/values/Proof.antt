@@ -1,0 +1,21 @@
+-- `values` is safe and ends. Each value is one turn.
+-- Assumes nothing.
+use borrow.Author.Needs.{needs}
+use Prim.Native.Nat.{_-_}
+use mathlib.Core.Path.{_≡_}
+use lib.ListN.{length}
+use Rattle.sangvireb.proofs.dump.values.Statement.{statement}
+use Rattle.sangvireb.proofs.dump.values.Tie as tie
+
+abbrev Inv-loop : tie.InvT-loop
+Inv-loop out₀ n form k m₀ i₀ out m i = (length out ≡ length out₀)
+
+abbrev μ-loop : tie.MeasureT-loop
+μ-loop out₀ n form k m₀ i₀ out m i = k - i
+
+pub values-spec : {M : Type 1} → statement M
+values-spec =
+    tie.close
+    (tie.spec
+    Inv-loop μ-loop (λ c κs. search needs) (λ c. search needs) (λ c κs. search needs) (λ c. search needs)
+    (λ c. search needs) (λ c. search needs) (λ c. search needs) (λ c. search needs))
