@@ -1,0 +1,164 @@
+//! The library's two calls over slices, and where each table lies in what is lent.
+//!
+//! This is for hosts that keep their own tables.
+//! docs/LAYOUT.md says what each cell holds. The names are those of bindings/c/sangvireb.h, and a test holds the two together.
+
+/// Blocks in a session.
+pub const BLOCKS: usize = 64;
+/// Variables in a session.
+pub const VARIABLES: usize = 64;
+/// Destinations of a branch.
+pub const DESTS: usize = 8;
+/// Values that the caller makes.
+pub const MADE: usize = 4096;
+/// Calls in a list.
+pub const CALLS: usize = 16384;
+
+/// Zeros that a session can add: one for each variable and block.
+pub const ZERO_ROOM: usize = BLOCKS * VARIABLES;
+/// Values of every sort: those made, and a parameter and a zero for each variable and block.
+pub const VALUE_ROOM: usize = MADE + 2 * ZERO_ROOM;
+
+/// Cells of a row of destinations: its count, then its entries, as in every row.
+pub const DEST_ROW: usize = 1 + DESTS;
+/// Cells of a row of predecessors or of placed blocks.
+pub const PRED_ROW: usize = 1 + BLOCKS;
+/// Cells of a row of types, parameters, pending variables or arguments.
+pub const PARAM_ROW: usize = 1 + VARIABLES;
+/// Cells of a row of the zero log.
+pub const ZERO_ROW: usize = 1 + ZERO_ROOM;
+
+/// In `graph`: how many blocks are declared.
+pub const BLOCK_COUNT: usize = 0;
+/// In `graph`: the row of the declared variables' types.
+pub const TYPES: usize = BLOCK_COUNT + 1;
+/// In `graph`: which blocks have a branch.
+pub const BRANCHES: usize = TYPES + PARAM_ROW;
+/// In `graph`: which blocks are sealed.
+pub const SEALED: usize = BRANCHES + BLOCKS;
+/// In `graph`: a row of destinations for each block.
+pub const DEST_ROWS: usize = SEALED + BLOCKS;
+/// In `graph`: a row of predecessors for each block.
+pub const PRED_ROWS: usize = DEST_ROWS + BLOCKS * DEST_ROW;
+/// Cells that `graph` needs.
+pub const GRAPH_NEED: usize = PRED_ROWS + BLOCKS * PRED_ROW;
+
+/// In `form`: how many values there are.
+pub const VALUE_COUNT: usize = 0;
+/// In `form`: how many of them the caller made.
+pub const MADE_COUNT: usize = VALUE_COUNT + 1;
+/// In `form`: each value's alias target.
+pub const TARGET: usize = MADE_COUNT + 1;
+/// In `form`: each value's sort.
+pub const SORT: usize = TARGET + VALUE_ROOM;
+/// In `form`: each value's type.
+pub const TYPE: usize = SORT + VALUE_ROOM;
+/// In `form`: each value's block.
+pub const BLOCK: usize = TYPE + VALUE_ROOM;
+/// In `form`: the row of the blocks placed.
+pub const PLACED: usize = BLOCK + VALUE_ROOM;
+/// In `form`: the zero log's row of calls.
+pub const ZERO_CALLS: usize = PLACED + PRED_ROW;
+/// In `form`: the zero log's row of blocks.
+pub const ZERO_BLOCKS: usize = ZERO_CALLS + ZERO_ROW;
+/// In `form`: a row of parameters for each block.
+pub const PARAM_ROWS: usize = ZERO_BLOCKS + ZERO_ROW;
+/// In `form`: a row of pending variables for each block.
+pub const PENDING_ROWS: usize = PARAM_ROWS + BLOCKS * PARAM_ROW;
+/// In `form`: the last definitions, value plus one, by variable and then by block.
+pub const DEFS: usize = PENDING_ROWS + BLOCKS * PARAM_ROW;
+/// In `form`: a row of arguments for each destination of each block's branch.
+pub const ARG_ROWS: usize = DEFS + VARIABLES * BLOCKS;
+/// Cells that `form` needs.
+pub const FORM_NEED: usize = ARG_ROWS + BLOCKS * DESTS * PARAM_ROW;
+
+/// Cells that `work` needs: two for each scheduled call, one for each result.
+pub const WORK_NEED: usize = 2 * BLOCKS * (1 + DESTS) + BLOCKS * DESTS + 1;
+
+/// The session was run.
+pub const RUN: u32 = 0;
+/// Refused whole: a lent table is shorter than its need.
+pub const SHORT: u32 = 1;
+/// Refused whole: the call lists differ in length or are too long.
+pub const UNFIT: u32 = 2;
+
+#[repr(C)]
+struct Answer {
+    code: u32,
+    number: u32,
+}
+
+// As in bindings/c/sangvireb.h: a list is a pointer and a length.
+extern "C" {
+    fn sangvireb_session(
+        kinds: *const u32,
+        kinds_len: usize,
+        xs: *const u32,
+        xs_len: usize,
+        ys: *const u32,
+        ys_len: usize,
+        zs: *const u32,
+        zs_len: usize,
+        codes: *mut u32,
+        codes_len: usize,
+        numbers: *mut u32,
+        numbers_len: usize,
+        graph: *mut u32,
+        graph_len: usize,
+        form: *mut u32,
+        form_len: usize,
+        work: *mut u32,
+        work_len: usize,
+    ) -> u32;
+    fn sangvireb_resolve(targets: *const u32, targets_len: usize, value: u32) -> Answer;
+}
+
+/// Runs the calls `kinds[i], xs[i], ys[i], zs[i]` in turn from the empty session, whatever the tables hold.
+///
+/// Answers [`RUN`], or refuses the whole with [`UNFIT`] or [`SHORT`] and leaves everything as it was.
+#[allow(clippy::too_many_arguments)] // the library's own nine lists
+pub fn session(
+    kinds: &[u32],
+    xs: &[u32],
+    ys: &[u32],
+    zs: &[u32],
+    codes: &mut [u32],
+    numbers: &mut [u32],
+    graph: &mut [u32],
+    form: &mut [u32],
+    work: &mut [u32],
+) -> u32 {
+    // SAFETY: the proved contract has no precondition: any lengths, any contents. Each pair is a slice's own pointer and length, so all of it
+    // may be read and, for the last five, written; the borrow checker keeps those five apart from one another and from the four lists read.
+    // The library keeps no pointer after it returns.
+    unsafe {
+        sangvireb_session(
+            kinds.as_ptr(),
+            kinds.len(),
+            xs.as_ptr(),
+            xs.len(),
+            ys.as_ptr(),
+            ys.len(),
+            zs.as_ptr(),
+            zs.len(),
+            codes.as_mut_ptr(),
+            codes.len(),
+            numbers.as_mut_ptr(),
+            numbers.len(),
+            graph.as_mut_ptr(),
+            graph.len(),
+            form.as_mut_ptr(),
+            form.len(),
+            work.as_mut_ptr(),
+            work.len(),
+        )
+    }
+}
+
+/// Follows alias targets from a value to one that is its own target. Answers a code and a number: 0 and that value; 6 and 0 if `value` is
+/// past the list; 14 and 0 if no end is reached.
+pub fn resolve(targets: &[u32], value: u32) -> (u32, u32) {
+    // SAFETY: the proved contract has no precondition, and the pair is the slice's own pointer and length, which is only read.
+    let answer = unsafe { sangvireb_resolve(targets.as_ptr(), targets.len(), value) };
+    (answer.code, answer.number)
+}
