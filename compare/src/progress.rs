@@ -1,0 +1,34 @@
+//! A line each second, so that a person sees that it runs and how fast.
+use crate::figures::Figures;
+use std::io::{IsTerminal, Write, stderr};
+use std::time::{Duration, Instant};
+
+pub struct Progress {
+    began: Instant,
+    shown: Instant,
+    of: u64,
+}
+
+impl Progress {
+    pub fn new(of: u64) -> Progress {
+        Progress { began: Instant::now(), shown: Instant::now(), of }
+    }
+
+    pub fn show(&mut self, figures: &Figures) {
+        if self.shown.elapsed() >= Duration::from_secs(1) {
+            self.shown = Instant::now();
+            self.line(figures, if stderr().is_terminal() { "\r" } else { "\n" });
+        }
+    }
+
+    fn line(&self, figures: &Figures, end: &str) {
+        let seconds = self.began.elapsed().as_secs_f64();
+        let rate = figures.lists as f64 / seconds;
+        eprint!("{} of {} lists, {} calls, {seconds:.0} s, {rate:.0} lists/s   {end}", figures.lists, self.of, figures.calls);
+        let _ = stderr().flush();
+    }
+
+    pub fn end(&self, figures: &Figures) {
+        self.line(figures, "\n");
+    }
+}
