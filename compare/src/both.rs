@@ -16,17 +16,26 @@ pub struct Both {
     pub heights: Heights,
     rng: Rng,
     /// changes what the library left, so that a test can see a difference found and shrunk
+    #[cfg(test)]
     pub planted: Option<fn(&[Call], &mut Lent)>,
 }
 
 impl Both {
     pub fn new(seed: u64) -> Both {
-        Both { lent: Lent::new(seed), expected: Expected::new(), heights: Heights::default(), rng: Rng::new(seed), planted: None }
+        Both {
+            lent: Lent::new(seed),
+            expected: Expected::new(),
+            heights: Heights::default(),
+            rng: Rng::new(seed),
+            #[cfg(test)]
+            planted: None,
+        }
     }
 
     /// What differs first, if anything does.
     pub fn difference(&mut self, calls: &[Call]) -> Option<String> {
         let session = self.lent.run(calls, &mut self.rng);
+        #[cfg(test)]
         if let Some(plant) = self.planted {
             plant(calls, &mut self.lent);
         }

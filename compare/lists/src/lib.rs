@@ -1,11 +1,13 @@
 //! Lists of calls: made at random, run by the library, shrunk, walked on paths. Needs nothing but the library.
 pub mod draft;
+pub mod fields;
 pub mod lent;
 pub mod limits;
 pub mod manner;
 pub mod odd;
 pub mod rng;
 pub mod shapes;
+pub mod shrink;
 pub mod words;
 
 use draft::Draft;
