@@ -14,21 +14,21 @@ impl Progress {
         Progress { began: Instant::now(), shown: Instant::now(), of }
     }
 
-    pub fn show(&mut self, figures: &Figures) {
+    pub fn show(&mut self, lists: u64, calls: u64) {
         if self.shown.elapsed() >= Duration::from_secs(1) {
             self.shown = Instant::now();
-            self.line(figures, if stderr().is_terminal() { "\r" } else { "\n" });
+            self.line(lists, calls, if stderr().is_terminal() { "\r" } else { "\n" });
         }
     }
 
-    fn line(&self, figures: &Figures, end: &str) {
+    fn line(&self, lists: u64, calls: u64, end: &str) {
         let seconds = self.began.elapsed().as_secs_f64();
-        let rate = figures.lists as f64 / seconds;
-        eprint!("{} of {} lists, {} calls, {seconds:.0} s, {rate:.0} lists/s   {end}", figures.lists, self.of, figures.calls);
+        let rate = lists as f64 / seconds;
+        eprint!("{lists} of {} lists, {calls} calls, {seconds:.0} s, {rate:.0} lists/s   {end}", self.of);
         let _ = stderr().flush();
     }
 
     pub fn end(&self, figures: &Figures) {
-        self.line(figures, "\n");
+        self.line(figures.lists, figures.calls, "\n");
     }
 }

@@ -35,7 +35,7 @@ pub fn run(lists: u64, seed: u64, first: u64, only: Option<Shape>) -> ExitCode {
         by_shape[place].count(&calls, &both);
         all.lists += 1;
         all.calls += calls.len() as u64;
-        progress.show(&all);
+        progress.show(all.lists, all.calls);
     }
     progress.end(&all);
     summary(&by_shape);

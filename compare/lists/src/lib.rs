@@ -8,6 +8,7 @@ pub mod odd;
 pub mod rng;
 pub mod shapes;
 pub mod shrink;
+pub mod small;
 pub mod words;
 
 use draft::Draft;
