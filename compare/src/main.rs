@@ -3,7 +3,6 @@ mod both;
 mod cells;
 mod expected;
 mod figures;
-mod progress;
 mod random;
 mod report;
 mod small;

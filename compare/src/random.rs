@@ -1,8 +1,8 @@
 //! Random lists of every shape.
 use crate::both::Both;
 use crate::figures::Figures;
-use crate::progress::Progress;
 use crate::report::report;
+use lists::progress::Progress;
 use lists::rng::Rng;
 use lists::shapes::{SHAPES, Shape};
 use std::process::ExitCode;
@@ -37,7 +37,7 @@ pub fn run(lists: u64, seed: u64, first: u64, only: Option<Shape>) -> ExitCode {
         all.calls += calls.len() as u64;
         progress.show(all.lists, all.calls);
     }
-    progress.end(&all);
+    progress.end(all.lists, all.calls);
     summary(&by_shape);
     println!("no difference");
     ExitCode::SUCCESS

@@ -1,8 +1,8 @@
 //! All small lists, part by part.
 use crate::both::Both;
 use crate::figures::Figures;
-use crate::progress::Progress;
 use crate::report::report;
+use lists::progress::Progress;
 use lists::small::{PARTS, Part};
 use std::process::ExitCode;
 
@@ -23,7 +23,7 @@ pub fn run(only: Option<&str>) -> ExitCode {
         println!("{:<16} {}", part.name, figures.brief());
         all.add(&figures);
     }
-    progress.end(&all);
+    progress.end(all.lists, all.calls);
     println!("{:<16} {}\n{}\nno difference", "all", all.brief(), all.full());
     ExitCode::SUCCESS
 }

@@ -1,14 +1,18 @@
 //! Lists of calls: made at random, run by the library, shrunk, walked on paths. Needs nothing but the library.
 pub mod draft;
 pub mod fields;
+pub mod finished;
 pub mod lent;
 pub mod limits;
 pub mod manner;
 pub mod odd;
+pub mod path;
+pub mod progress;
 pub mod rng;
 pub mod shapes;
 pub mod shrink;
 pub mod small;
+pub mod walks;
 pub mod words;
 
 use draft::Draft;

@@ -1,5 +1,4 @@
 //! A line each second, so that a person sees that it runs and how fast.
-use crate::figures::Figures;
 use std::io::{IsTerminal, Write, stderr};
 use std::time::{Duration, Instant};
 
@@ -28,7 +27,7 @@ impl Progress {
         let _ = stderr().flush();
     }
 
-    pub fn end(&self, figures: &Figures) {
-        self.line(figures.lists, figures.calls, "\n");
+    pub fn end(&self, lists: u64, calls: u64) {
+        self.line(lists, calls, "\n");
     }
 }
