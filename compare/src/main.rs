@@ -3,6 +3,7 @@ mod both;
 mod cells;
 mod expected;
 mod figures;
+mod needed;
 mod random;
 mod report;
 mod small;
@@ -13,7 +14,8 @@ use std::process::ExitCode;
 
 const USAGE: &str = "\
 random --lists N --seed S [--shape NAME] [--first K]   random lists
-small [--part NAME]                                    all small lists";
+small [--part NAME]                                    all small lists
+needed                                                 lists without one supposition of demand 3";
 
 fn main() -> ExitCode {
     oracle::quiet_panics();
@@ -23,6 +25,7 @@ fn main() -> ExitCode {
             let shape = words.text("--shape").map(|name| Shape::named(name).unwrap_or_else(|| words.wrong("--shape")));
             random::run(words.number("--lists", 2000), words.number("--seed", 1), words.number("--first", 0), shape)
         }
+        "needed" => needed::run(),
         "small" => small::run(words.text("--part")),
         _ => {
             eprintln!("{USAGE}");
