@@ -271,7 +271,8 @@ pub fn run(rounds: u64, seed: u64, heap: bool) -> ExitCode {
 fn summary(figures: &Figures, heap: bool) {
     let [ran, short, unfit] = figures.sessions;
     let [ended, past, lost] = figures.resolved;
-    println!("{}", if heap { "lent from the heap, each list of exactly its length" } else { "lent between closed pages; a read past either end was shown to be stopped" });
+    let ground = if heap { "from the heap, each list of exactly its length" } else { "between closed pages; a read past either end was shown to be stopped" };
+    println!("lent {ground}");
     println!("{} rounds, {} calls; sessions that answered 0: {ran}, 1: {short}, 2: {unfit}", figures.rounds, figures.calls);
     println!("resolving answered 0: {ended}, 6: {past}, 14: {lost}");
     println!("nothing outside what was lent was touched, and every answer is as it must be");
