@@ -20,6 +20,7 @@ needed                                                 lists without one supposi
 fn main() -> ExitCode {
     oracle::quiet_panics();
     let words = Words::of_command_line();
+    words.only(&["--lists", "--seed", "--shape", "--first", "--part"]);
     match words.command() {
         "random" => {
             let shape = words.text("--shape").map(|name| Shape::named(name).unwrap_or_else(|| words.wrong("--shape")));
