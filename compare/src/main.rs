@@ -6,9 +6,11 @@ mod figures;
 mod random;
 mod report;
 mod small;
+mod stored;
 
 use lists::shapes::Shape;
 use lists::words::Words;
+use std::path::Path;
 use std::process::ExitCode;
 
 const USAGE: &str = "\
@@ -22,6 +24,10 @@ fn main() -> ExitCode {
         "random" => {
             let shape = words.text("--shape").map(|name| Shape::named(name).unwrap_or_else(|| words.wrong("--shape")));
             random::run(words.number("--lists", 2000), words.number("--seed", 1), words.number("--first", 0), shape)
+        }
+        "stored" => {
+            let root = Path::new(env!("CARGO_MANIFEST_DIR")).parent().expect("compare stands in the repository");
+            stored::run(root, &root.join("crates/sangvireb"), words.number("--seed", 1))
         }
         "small" => small::run(words.text("--part")),
         _ => {

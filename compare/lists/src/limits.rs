@@ -8,10 +8,33 @@ pub fn list(rng: &mut Rng) -> Vec<Call> {
         0 => made_values(rng),
         1 => every_cell(rng),
         2 => full_lookup(rng),
-        3 => alias_chain(rng),
-        4 => arguments(rng),
+        3 => alias_chain(rng.within(2, VARIABLES as u32), |seals| match rng.below(3) {
+            0 => seals.reverse(),
+            1 => rng.shuffle(seals),
+            _ => {}
+        }),
+        4 => arguments(rng.chance(1, 2)),
         _ => calls(rng),
     }
+}
+
+/// A list for each limit, always the same: what is just accepted, and what is refused after it.
+pub fn fixed() -> Vec<Vec<Call>> {
+    let ring = eight_ways(|p, i| (p + 1 + i) % BLOCKS as u32);
+    let one_too_many = vec![[12, 0, 0, 0]; MAX_CALLS + 1];
+    vec![arguments(true), [ring, vec![[6, 0, 0, 0]]].concat(), alias_chain(4, |seals| seals.reverse()), everything(), one_too_many]
+}
+
+/// As many calls as a list can have, and as many values: made, and a parameter and a zero for each variable in each block, none of which has a way in.
+fn everything() -> Vec<Call> {
+    let mut calls = declared(BLOCKS, VARIABLES);
+    calls.extend((0..MADE + 1).map(|_| [3, 0, 2, 0]));
+    calls.push([12, 0, 0, 0]);
+    for _ in 0..2 {
+        calls.extend((0..BLOCKS as u32).flat_map(|b| (0..VARIABLES as u32).map(move |v| [6, v, b, 0])));
+    }
+    calls.resize(MAX_CALLS, [14, 0, 0, 0]);
+    calls
 }
 
 /// One more block and variable than there can be: the last of each is refused.
@@ -64,25 +87,34 @@ fn every_cell(rng: &mut Rng) -> Vec<Call> {
     calls
 }
 
-/// Sealed blocks that all branch eight ways: one use schedules as many calls as a run can.
+/// Sealed blocks that all branch eight ways: one use schedules as many calls as a run can, or nearly.
 fn full_lookup(rng: &mut Rng) -> Vec<Call> {
-    let mut calls = declared(BLOCKS, 2);
     let b = BLOCKS as u32;
-    for p in 0..b {
-        calls.push([7, p, 0, 0]);
-        let next = |i: u32| if i == 0 { (p + 1) % b } else { (p * DESTS as u32 + i) % b };
-        let near: Vec<u32> = (0..DESTS as u32).map(|i| if rng.chance(1, 2) { next(i) } else { (p + i) % b }).collect();
-        calls.extend(near.iter().map(|&d| [8, p, d, 0]));
-        calls.extend(near.iter().map(|&d| [9, d, p, 0]));
-    }
-    calls.push([12, 0, 0, 0]);
+    let mut calls = eight_ways(|p, i| match (rng.chance(1, 2), i) {
+        (false, _) => (p + i) % b,
+        (true, 0) => (p + 1) % b,
+        (true, _) => (p * DESTS as u32 + i) % b,
+    });
     calls.extend((0..8).map(|_| [6, rng.below(2), rng.below(b), 0]));
     calls
 }
 
-/// A line of unsealed blocks, each variable given what the one before it answered at the line's end: sealing from the front makes one long chain.
-fn alias_chain(rng: &mut Rng) -> Vec<Call> {
-    let (blocks, vars) = (BLOCKS as u32, rng.within(2, VARIABLES as u32));
+/// Each block p branches to `dest(p, i)`, and all is sealed.
+fn eight_ways(mut dest: impl FnMut(u32, u32) -> u32) -> Vec<Call> {
+    let mut calls = declared(BLOCKS, 2);
+    for p in 0..BLOCKS as u32 {
+        calls.push([7, p, 0, 0]);
+        let dests: Vec<u32> = (0..DESTS as u32).map(|i| dest(p, i)).collect();
+        calls.extend(dests.iter().map(|&d| [8, p, d, 0]));
+        calls.extend(dests.iter().map(|&d| [9, d, p, 0]));
+    }
+    calls.push([12, 0, 0, 0]);
+    calls
+}
+
+/// A line of unsealed blocks, each variable given what the one before it answered at the line's end. Sealed from the end, a line becomes one chain.
+fn alias_chain(vars: u32, order: impl FnOnce(&mut [u32])) -> Vec<Call> {
+    let blocks = BLOCKS as u32;
     let mut calls = declared(BLOCKS, vars as usize);
     for b in 0..blocks - 1 {
         calls.extend([[7, b, 0, 0], [8, b, b + 1, 0], [9, b + 1, b, 0]]);
@@ -95,17 +127,13 @@ fn alias_chain(rng: &mut Rng) -> Vec<Call> {
         calls.extend((0..blocks).map(|b| [6, v, b, 0]));
     }
     let mut seals: Vec<u32> = (0..blocks).collect();
-    match rng.below(3) {
-        0 => seals.reverse(),
-        1 => rng.shuffle(&mut seals),
-        _ => {}
-    }
+    order(&mut seals);
     calls.extend(seals.iter().map(|&b| [11, b, 0, 0]));
     calls
 }
 
 /// Two blocks enter a third eight times each with a value for every variable; the ninth destination is refused.
-fn arguments(rng: &mut Rng) -> Vec<Call> {
+fn arguments(sealed_first: bool) -> Vec<Call> {
     let mut calls = declared(4, VARIABLES);
     for v in 0..VARIABLES as u32 {
         for b in 1..3 {
@@ -117,7 +145,6 @@ fn arguments(rng: &mut Rng) -> Vec<Call> {
         calls.extend((0..DESTS + 1).map(|_| [8, b, 3, 0]));
         calls.push([9, 3, b, 0]);
     }
-    let sealed_first = rng.chance(1, 2);
     calls.extend(sealed_first.then_some([12, 0, 0, 0]));
     calls.extend((0..VARIABLES as u32).map(|v| [6, v, 3, 0]));
     calls.push([12, 0, 0, 0]);
