@@ -3,6 +3,7 @@ mod both;
 mod cells;
 mod expected;
 mod figures;
+mod needed;
 mod random;
 mod report;
 mod small;
@@ -15,7 +16,9 @@ use std::process::ExitCode;
 
 const USAGE: &str = "\
 random --lists N --seed S [--shape NAME] [--first K]   random lists
-small [--part NAME]                                    all small lists";
+small [--part NAME]                                    all small lists
+needed                                                 lists without one supposition of demand 3
+stored [--seed S]                                      writes the lists and answers that the gate replays";
 
 fn main() -> ExitCode {
     oracle::quiet_panics();
@@ -25,6 +28,7 @@ fn main() -> ExitCode {
             let shape = words.text("--shape").map(|name| Shape::named(name).unwrap_or_else(|| words.wrong("--shape")));
             random::run(words.number("--lists", 2000), words.number("--seed", 1), words.number("--first", 0), shape)
         }
+        "needed" => needed::run(),
         "stored" => {
             let root = Path::new(env!("CARGO_MANIFEST_DIR")).parent().expect("compare stands in the repository");
             stored::run(root, &root.join("crates/sangvireb"), words.number("--seed", 1))

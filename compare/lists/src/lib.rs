@@ -1,7 +1,9 @@
 //! Lists of calls: made at random, run by the library, shrunk, walked on paths. Needs nothing but the library.
 pub mod draft;
+pub mod fence;
 pub mod fields;
 pub mod finished;
+pub mod hostile;
 pub mod lent;
 pub mod limits;
 pub mod manner;
