@@ -1,4 +1,19 @@
-//! A proved SSA builder: safe calls over the static library that `rt staticlib exports` writes.
+#![doc = include_str!("../README.md")]
 #![deny(missing_docs)]
 
+mod builder;
+mod list;
+mod number;
 pub mod raw;
+mod readers;
+mod refusal;
+mod session;
+mod types;
+
+pub use builder::SSABuilder;
+pub use list::{Call, List};
+pub use number::{Block, Branch, Value, Variable};
+pub use readers::{Destination, Row, ValueData};
+pub use refusal::{Refusal, RefusedWhole};
+pub use session::Session;
+pub use types::{Sort, Type};
