@@ -83,7 +83,8 @@ impl List {
         self.record([2, variable.0, ty.number(), 0], Variable)
     }
 
-    /// Makes a value in a block that has no branch yet.
+    /// Makes a value in a block that has no branch yet. Its number is the count of values so far, of every sort: to define a variable with it
+    /// in the same list, foresee that, or let [`SSABuilder`](crate::SSABuilder) tell you.
     pub fn make_value(&mut self, block: Block, ty: Type) -> Call<Value> {
         self.record([3, block.0, ty.number(), 0], Value)
     }

@@ -150,7 +150,7 @@ impl Session {
         let cell = |table: usize| self.form[table + place];
         ValueData {
             value: Value(place as u32),
-            sort: Sort::from_number(cell(raw::SORT)).expect("the layout writes a sort as 0, 1 or 2"),
+            sort: Sort::from_number(cell(raw::SORT)).expect("proved: the tables show a sort as 0, 1 or 2"),
             ty: stored_type(cell(raw::TYPE)),
             block: Block(cell(raw::BLOCK)),
             target: Value(cell(raw::TARGET)),

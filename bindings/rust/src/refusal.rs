@@ -9,7 +9,7 @@ use std::fmt;
 pub enum Refusal {
     /// The kind is not 1 to 14. Only a call recorded by its numbers can get this.
     UnknownKind = 3,
-    /// The limit is reached.
+    /// The limit of blocks, variables or made values is reached; in an [`SSABuilder`](crate::SSABuilder) also that of calls.
     Full,
     /// A block or variable number skips the next one.
     Skips,
