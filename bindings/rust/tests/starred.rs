@@ -179,6 +179,8 @@ fn j_a_loop_that_swaps_two_variables() {
     assert_eq!(ssa.seal_block(Block(0)), Ok(0));
     let (first, second) = (ssa.use_var(FIRST, Block(1)).unwrap(), ssa.use_var(SECOND, Block(1)).unwrap());
     assert_eq!((first, second), (Value(2), Value(3)));
+    assert!(ssa.session().pending(Block(1)).unwrap().eq([FIRST, SECOND]));
+    assert!(ssa.session().params(Block(1)).unwrap().eq([first, second]));
     ssa.def_var(FIRST, second, Block(1)).unwrap();
     ssa.def_var(SECOND, first, Block(1)).unwrap();
     jump(&mut ssa, 1, &[1]);
