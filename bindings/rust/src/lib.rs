@@ -1,9 +1,10 @@
 #![doc = include_str!("../README.md")]
-#![deny(missing_docs)]
+#![deny(missing_docs, unsafe_code)]
 
 mod builder;
 mod list;
 mod number;
+#[allow(unsafe_code)] // the two calls into the library stand there and nowhere else
 pub mod raw;
 mod readers;
 mod refusal;
