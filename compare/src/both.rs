@@ -116,5 +116,6 @@ mod tests {
     fn a_difference_names_its_cell() {
         let named = changed(3, |_| 65_733).expect("it differs");
         assert_eq!(named, "form cell 65733: last definitions of variable 0, block 0: the oracle has 1, the library 513");
+        assert_eq!(cells::name(3, 69_829 + 65 * 13 + 2), "form cell 70676: arguments of branch 1, destination 5, entry 1");
     }
 }

@@ -70,3 +70,18 @@ pub fn read(text: &str) -> Option<Vec<Vec<Call>>> {
     }
     Some(lists)
 }
+
+#[cfg(test)]
+mod tests {
+    use super::*;
+
+    #[test]
+    fn seed_and_number_determine_a_list() {
+        let (mut one, mut other) = (Lent::new(1), Lent::new(2));
+        for number in 0..200 {
+            let shape = shapes::SHAPES[number as usize % shapes::SHAPES.len()];
+            let list = |lent| random(shape, lent, &mut Rng::nth(5, number));
+            assert_eq!(list(&mut one), list(&mut other));
+        }
+    }
+}

@@ -9,6 +9,7 @@ hostile --rounds N --seed S [--heap]    anything at all, lent between closed pag
 
 fn main() -> ExitCode {
     let words = Words::of_command_line();
+    words.only(&["--lists", "--rounds", "--seed", "--heap", "--side"]);
     let (lists, rounds, seed) = (words.number("--lists", 2000), words.number("--rounds", 2000), words.number("--seed", 1));
     match words.command() {
         "walk" => walks::run(lists, seed),
