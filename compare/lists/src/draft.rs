@@ -1,0 +1,270 @@
+//! Turns a graph into a list of calls. The draft keeps book of what it has asked for, not of what will be answered.
+use crate::lent::Lent;
+use crate::manner::{Manner, Sealing};
+use crate::odd;
+use crate::rng::Rng;
+use crate::shapes::Graph;
+use crate::{Call, MAX_CALLS};
+
+struct Use {
+    call: u32,
+    var: u32,
+    block: u32,
+}
+
+pub struct Draft<'r> {
+    rng: &'r mut Rng,
+    manner: Manner,
+    graph: Graph,
+    calls: Vec<Call>,
+    blocks: u32,
+    types: Vec<u32>,
+    uses: Vec<Use>,
+    makes: u32,
+    /// definitions and the calls that made their values, whose numbers are known only after a run
+    owed: Vec<(usize, usize)>,
+    /// edges (block, branch) that wait to be declared
+    waiting: Vec<(u32, u32)>,
+    /// how many edges into each block are not declared yet
+    missing: Vec<u32>,
+    sealed: Vec<bool>,
+}
+
+impl<'r> Draft<'r> {
+    pub fn new(graph: Graph, manner: Manner, rng: &'r mut Rng) -> Draft<'r> {
+        let mut missing = vec![0; graph.len()];
+        for dests in &graph {
+            for d in distinct(dests) {
+                missing[d as usize] += 1;
+            }
+        }
+        let types = (0..manner.vars).map(|_| if manner.many_types { rng.below(6) } else { 2 }).collect();
+        let sealed = vec![false; graph.len()];
+        Draft { rng, manner, graph, calls: vec![], blocks: 0, types, uses: vec![], makes: 0, owed: vec![], waiting: vec![], missing, sealed }
+    }
+
+    /// The whole list, where each definition takes the value that was made for it, as far as a few runs find its number.
+    pub fn list(mut self, lent: &mut Lent) -> Vec<Call> {
+        self.declarations();
+        self.visit_all();
+        self.flush(0);
+        self.seal_rest();
+        self.tail();
+        self.calls.truncate(MAX_CALLS);
+        let rounds = if self.manner.proper { 40 } else { 3 };
+        for _ in 0..rounds {
+            if !self.pay(lent) {
+                break;
+            }
+        }
+        self.calls
+    }
+
+    /// Puts the numbers of made values, as a run answers them, where they are owed. Was anything changed?
+    fn pay(&mut self, lent: &mut Lent) -> bool {
+        lent.run(&self.calls, self.rng);
+        let mut changed = false;
+        for &(definition, make) in &self.owed {
+            if definition < self.calls.len() && self.calls[definition][2] != lent.numbers()[make] {
+                self.calls[definition][2] = lent.numbers()[make];
+                changed = true;
+            }
+        }
+        changed
+    }
+
+    fn push(&mut self, call: Call) -> usize {
+        if self.rng.chance(self.manner.bad, 1000) {
+            let bad = odd::call(self.calls.len() as u32, self.blocks, self.rng);
+            self.calls.push(bad);
+        }
+        self.calls.push(call);
+        self.calls.len() - 1
+    }
+
+    fn declarations(&mut self) {
+        self.need_block(0);
+        if self.manner.declared_first {
+            self.need_block(self.graph.len() as u32 - 1);
+        }
+        for v in 0..self.types.len() {
+            self.push([2, v as u32, self.types[v], 0]);
+        }
+    }
+
+    fn need_block(&mut self, b: u32) {
+        while self.blocks <= b {
+            self.push([1, self.blocks, 0, 0]);
+            self.blocks += 1;
+        }
+    }
+
+    /// Each block acts a few times and then branches, one block after the other or in turns.
+    fn visit_all(&mut self) {
+        let mut turns: Vec<u32> = (0..self.graph.len() as u32).collect();
+        if !self.manner.by_number {
+            self.rng.shuffle(&mut turns[1..]);
+        }
+        let mut left: Vec<u32> = turns.iter().map(|_| self.rng.below(self.manner.acts + 1)).collect();
+        while !turns.is_empty() {
+            let i = if self.manner.in_turns { self.rng.below(turns.len() as u32) as usize } else { 0 };
+            let b = turns[i];
+            self.need_block(b);
+            self.seal_on_visit(b);
+            if left[i] > 0 {
+                left[i] -= 1;
+                self.act(b);
+            } else {
+                self.branch(b);
+                turns.remove(i);
+                left.remove(i);
+            }
+        }
+    }
+
+    fn seal_on_visit(&mut self, b: u32) {
+        let now = match self.manner.sealing {
+            Sealing::WhenComplete => self.missing[b as usize] == 0,
+            Sealing::AtOnce => true,
+            Sealing::AnyTime => self.rng.chance(1, 4),
+            Sealing::AtEnd | Sealing::Never => false,
+        };
+        if now && !self.sealed[b as usize] {
+            self.seal(b);
+        }
+    }
+
+    fn seal(&mut self, b: u32) {
+        self.sealed[b as usize] = true;
+        self.push([11, b, 0, 0]);
+    }
+
+    fn any_block(&mut self) -> u32 {
+        self.rng.below(self.blocks)
+    }
+
+    fn act(&mut self, b: u32) {
+        let v = self.rng.below(self.types.len() as u32);
+        match self.rng.below(12) {
+            0..=3 => self.give_made(v, b),
+            4..=7 => self.use_var(v, b),
+            8 => {
+                let elsewhere = self.any_block();
+                self.use_var(v, elsewhere)
+            }
+            9 => self.give_answer(v, b),
+            10 if !self.manner.proper => self.give_anything(v, b),
+            _ => {
+                let kind = self.rng.within(13, 14);
+                let asked = self.any_block();
+                self.push([kind, asked, 0, 0]);
+            }
+        }
+    }
+
+    fn use_var(&mut self, var: u32, block: u32) {
+        let call = self.push([6, var, block, 0]) as u32;
+        self.uses.push(Use { call, var, block });
+    }
+
+    fn give_made(&mut self, v: u32, b: u32) {
+        let make = self.push([3, b, self.types[v as usize], 0]);
+        self.makes += 1;
+        let definition = self.push([4, v, self.makes - 1, b]);
+        self.owed.push((definition, make));
+    }
+
+    /// What an earlier use answered, which may have become an alias since.
+    fn give_answer(&mut self, v: u32, b: u32) {
+        let fits = |u: &&Use| self.types[u.var as usize] == self.types[v as usize] && (!self.manner.proper || u.block == b);
+        let fitting: Vec<u32> = self.uses.iter().rev().filter(fits).take(8).map(|u| u.call).collect();
+        if !fitting.is_empty() {
+            let call = self.rng.pick(&fitting);
+            self.push([5, v, call, b]);
+        }
+    }
+
+    fn give_anything(&mut self, v: u32, b: u32) {
+        let value = self.rng.below(self.makes + 2 * self.uses.len() as u32 + 1);
+        self.push([4, v, value, b]);
+    }
+
+    fn branch(&mut self, b: u32) {
+        let dests = self.graph[b as usize].clone();
+        if dests.is_empty() && self.rng.chance(1, 2) {
+            return;
+        }
+        self.push([7, b, 0, 0]);
+        for &d in &dests {
+            self.need_block(d);
+            self.push([8, b, d, 0]);
+        }
+        self.waiting.extend(distinct(&dests).into_iter().map(|d| (d, b)));
+        let leave = if self.manner.edges_wait { self.rng.below(self.waiting.len() as u32 + 1) } else { 0 };
+        self.flush(leave as usize);
+    }
+
+    /// Declares edges until so many still wait.
+    fn flush(&mut self, leave: usize) {
+        if self.rng.chance(1, 2) {
+            self.rng.shuffle(&mut self.waiting);
+        }
+        while self.waiting.len() > leave {
+            let (d, b) = self.waiting.remove(0);
+            self.push([9, d, b, 0]);
+            if self.rng.chance(self.manner.removed, 100) {
+                self.push([10, d, b, 0]);
+                if self.manner.proper || self.rng.chance(2, 3) {
+                    self.waiting.push((d, b));
+                }
+                continue;
+            }
+            self.missing[d as usize] = self.missing[d as usize].saturating_sub(1);
+            if self.manner.sealing == Sealing::WhenComplete && self.missing[d as usize] == 0 && !self.sealed[d as usize] {
+                self.seal(d);
+            }
+        }
+    }
+
+    fn seal_rest(&mut self) {
+        if self.manner.sealing == Sealing::Never {
+            return;
+        }
+        if self.rng.chance(1, 2) {
+            let mut rest: Vec<u32> = (0..self.blocks).filter(|&b| !self.sealed[b as usize]).collect();
+            self.rng.shuffle(&mut rest);
+            rest.into_iter().for_each(|b| self.seal(b));
+        } else {
+            self.push([12, 0, 0, 0]);
+        }
+    }
+
+    /// Uses of everything; and, unless the list is proper, late definitions and calls that come too late.
+    fn tail(&mut self) {
+        for _ in 0..self.rng.below(self.manner.tail + 1) {
+            let (b, v) = (self.any_block(), self.rng.below(self.types.len() as u32));
+            match self.rng.below(if self.manner.proper { 6 } else { 12 }) {
+                0..=5 => self.use_var(v, b),
+                6 => self.give_answer(v, b),
+                7 => self.give_anything(v, b),
+                8 => {
+                    let other = self.any_block();
+                    let kind = self.rng.within(8, 10);
+                    self.push([kind, b, other, 0]);
+                }
+                9 => self.seal(b),
+                _ => self.act(b),
+            }
+        }
+    }
+}
+
+fn distinct(dests: &[u32]) -> Vec<u32> {
+    let mut once: Vec<u32> = Vec::new();
+    for &d in dests {
+        if !once.contains(&d) {
+            once.push(d);
+        }
+    }
+    once
+}

@@ -1,0 +1,156 @@
+//! A finished session on a path, as document 01 says under "On a path", and the suppositions of demand 3.
+//! crates/meaning/specs has both in the words of the proofs: Path.antt and Suppositions.antt.
+use crate::finished::Finished;
+
+/// What a block itself does, in list order.
+#[derive(Clone, Copy)]
+pub enum Act {
+    Makes { value: u32 },
+    Gives { var: u32, value: u32 },
+    Uses { var: u32, answer: u32 },
+}
+
+/// Each block's acts.
+pub fn acts(session: &Finished) -> Vec<Vec<Act>> {
+    let mut acts = vec![Vec::new(); session.blocks() as usize];
+    for (&[kind, x, y, z], number) in session.accepted() {
+        match kind {
+            3 => acts[x as usize].push(Act::Makes { value: number }),
+            4 | 5 => acts[z as usize].push(Act::Gives { var: x, value: number }),
+            6 => acts[y as usize].push(Act::Uses { var: x, answer: number }),
+            _ => {}
+        }
+    }
+    acts
+}
+
+pub const SUPPOSITIONS: [&str; 5] = [
+    "every block is sealed",
+    "no branch goes into block 0",
+    "every branch is declared to each of its destinations",
+    "nothing is defined in a block once its branch was declared",
+    "each definition takes a value made earlier in its own block, or answered to an earlier use there",
+];
+
+/// Which of the five suppositions the session meets.
+pub fn supposed(session: &Finished) -> [bool; 5] {
+    let mut blocks = 0..session.blocks();
+    [
+        blocks.clone().all(|b| session.is_sealed(b)),
+        blocks.clone().all(|p| !session.dests(p).contains(&0)),
+        blocks.all(|p| session.dests(p).iter().all(|&b| session.preds(b).contains(&p))),
+        none_late(session),
+        acts(session).iter().all(|acts| own_values(acts)),
+    ]
+}
+
+fn none_late(session: &Finished) -> bool {
+    let mut declared = vec![false; session.blocks() as usize];
+    session.accepted().all(|(&[kind, _, y, z], _)| match kind {
+        9 => {
+            declared[y as usize] = true;
+            true
+        }
+        4 | 5 => !declared[z as usize],
+        _ => true,
+    })
+}
+
+fn own_values(acts: &[Act]) -> bool {
+    let mut had = Vec::new();
+    acts.iter().all(|act| match *act {
+        Act::Makes { value } | Act::Uses { answer: value, .. } => {
+            had.push(value);
+            true
+        }
+        Act::Gives { value, .. } => had.contains(&value),
+    })
+}
+
+/// The first destination whose arguments are not one for each parameter: branch and place.
+pub fn unfed(session: &Finished) -> Option<(u32, usize)> {
+    let edges = (0..session.blocks()).flat_map(|p| (0..session.dests(p).len()).map(move |i| (p, i)));
+    edges.into_iter().find(|&(p, i)| session.args(p, i).len() != session.params(session.dests(p)[i]).len())
+}
+
+/// A use met on a path.
+pub struct Met {
+    pub block: u32,
+    pub var: u32,
+    pub answer: u32,
+    /// what the answer, aliases resolved, holds
+    pub holds: u64,
+    /// what the variable last received, or zero
+    pub received: u64,
+}
+
+/// What a value holds that the session does not determine.
+pub enum Content {
+    Unset,
+    Made,
+}
+
+/// What chooses a path and its contents, and looks at what is met there.
+pub trait Walker {
+    /// the place of the destination to take, or the path's end
+    fn next(&mut self, dests: &[u32]) -> Option<usize>;
+    fn content(&mut self, of: Content) -> u64;
+    fn meet(&mut self, met: Met);
+}
+
+struct Held<'s> {
+    session: &'s Finished<'s>,
+    values: Vec<u64>,
+    vars: Vec<u64>,
+}
+
+impl Held<'_> {
+    fn set_zeros(&mut self, block: u32) {
+        for value in 0..self.values.len() as u32 {
+            if self.session.is_zero_of(value, block) {
+                self.values[value as usize] = 0;
+            }
+        }
+    }
+
+    fn read(&self, value: u32) -> u64 {
+        self.values[self.session.resolve(value) as usize]
+    }
+
+    /// The block's own calls in list order.
+    fn stay(&mut self, block: u32, acts: &[Act], walker: &mut impl Walker) {
+        for act in acts {
+            match *act {
+                Act::Makes { value } => self.values[value as usize] = walker.content(Content::Made),
+                Act::Gives { var, value } => self.vars[var as usize] = self.read(value),
+                Act::Uses { var, answer } => {
+                    walker.meet(Met { block, var, answer, holds: self.read(answer), received: self.vars[var as usize] })
+                }
+            }
+        }
+    }
+
+    /// All arguments are read before any parameter is set.
+    fn go(&mut self, from: u32, place: usize) -> u32 {
+        let to = self.session.dests(from)[place];
+        let read: Vec<u64> = self.session.args(from, place).iter().map(|&arg| self.read(arg)).collect();
+        for (&param, word) in self.session.params(to).iter().zip(read) {
+            self.values[param as usize] = word;
+        }
+        self.set_zeros(to);
+        to
+    }
+}
+
+/// A path from block 0.
+pub fn walk(session: &Finished, acts: &[Vec<Act>], walker: &mut impl Walker) {
+    let values = (0..session.values()).map(|_| walker.content(Content::Unset)).collect();
+    let mut held = Held { session, values, vars: vec![0; session.variables() as usize] };
+    let mut block = 0;
+    held.set_zeros(block);
+    loop {
+        held.stay(block, &acts[block as usize], walker);
+        let Some(place) = walker.next(session.dests(block)) else { return };
+        block = held.go(block, place);
+    }
+}

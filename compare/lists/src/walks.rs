@@ -1,0 +1,171 @@
+//! Random lists that meet the suppositions of demand 3, walked on random paths.
+use crate::Call;
+use crate::draft::Draft;
+use crate::finished::Finished;
+use crate::lent::Lent;
+use crate::manner::Manner;
+use crate::path::{self, Content, Met, Walker};
+use crate::progress::Progress;
+use crate::rng::Rng;
+use crate::shapes::{Graph, SHAPES, Shape};
+use crate::shrink::shrink;
+use crate::text;
+use std::process::ExitCode;
+
+const PATHS: u32 = 8;
+
+#[derive(Default)]
+struct Figures {
+    lists: u64,
+    calls: u64,
+    unfit: u64,
+    paths: u64,
+    blocks: u64,
+    /// uses met, by the sort of the value to which the answer resolves
+    uses: [u64; 3],
+    aliases: u64,
+    zero: u64,
+}
+
+struct Random<'a> {
+    session: &'a Finished<'a>,
+    rng: &'a mut Rng,
+    figures: &'a mut Figures,
+    left: u32,
+    breach: Option<Met>,
+}
+
+impl Walker for Random<'_> {
+    fn next(&mut self, dests: &[u32]) -> Option<usize> {
+        self.figures.blocks += 1;
+        self.left = self.left.checked_sub(1)?;
+        (!dests.is_empty()).then(|| self.rng.below(dests.len() as u32) as usize)
+    }
+
+    /// Two values, or a value and zero, hold the same only by a chance of one in 2 to the 64.
+    fn content(&mut self, _: Content) -> u64 {
+        self.rng.word()
+    }
+
+    fn meet(&mut self, met: Met) {
+        let end = self.session.resolve(met.answer);
+        self.figures.uses[self.session.sort(end) as usize] += 1;
+        self.figures.aliases += u64::from(end != met.answer);
+        self.figures.zero += u64::from(met.received == 0);
+        if met.holds != met.received && self.breach.is_none() {
+            self.breach = Some(met);
+        }
+    }
+}
+
+/// Any shape, with no way into block 0 and, if there are other blocks, a way out of it.
+fn graph(manner: &Manner, rng: &mut Rng) -> Graph {
+    let shapes = &SHAPES[..SHAPES.len() - 2];
+    let shape: Shape = rng.pick(shapes);
+    let mut graph = shape.graph(manner.blocks, rng);
+    graph.iter_mut().for_each(|dests| dests.retain(|&d| d != 0));
+    if graph[0].is_empty() && manner.blocks > 1 {
+        graph[0].push(rng.within(1, manner.blocks - 1));
+    }
+    graph
+}
+
+/// What is wrong with a finished session that meets the suppositions, if anything.
+fn breach(session: &Finished, rng: &mut Rng, figures: &mut Figures) -> Option<String> {
+    if let Some((branch, place)) = path::unfed(session) {
+        return Some(format!("destination {place} of branch {branch} has not one argument for each parameter"));
+    }
+    let acts = path::acts(session);
+    for _ in 0..PATHS {
+        figures.paths += 1;
+        let left = rng.below(4 * session.blocks() + 8);
+        let mut walker = Random { session, rng, figures, left, breach: None };
+        path::walk(session, &acts, &mut walker);
+        if let Some(met) = walker.breach {
+            let Met { block, var, answer, holds, received } = met;
+            return Some(format!("in block {block} the answer {answer} of variable {var} holds {holds:x}, and it received {received:x}"));
+        }
+    }
+    None
+}
+
+/// Runs and walks one list; counts it apart if it does not meet the suppositions.
+fn try_list(calls: &[Call], lent: &mut Lent, rng: &mut Rng, figures: &mut Figures) -> Option<String> {
+    let code = lent.run(calls, rng);
+    assert_eq!(code, 0, "the list is run");
+    let session = Finished::of(calls, lent);
+    if path::supposed(&session) != [true; 5] {
+        figures.unfit += 1;
+        return None;
+    }
+    figures.lists += 1;
+    figures.calls += calls.len() as u64;
+    breach(&session, rng, figures)
+}
+
+fn proper_list(lent: &mut Lent, rng: &mut Rng) -> Vec<Call> {
+    let manner = Manner::proper(rng);
+    Draft::new(graph(&manner, rng), manner, rng).list(lent)
+}
+
+pub fn run(lists: u64, seed: u64) -> ExitCode {
+    let mut lent = Lent::new(seed);
+    let mut figures = Figures::default();
+    let mut progress = Progress::new(lists);
+    let mut number = 0;
+    while figures.lists < lists {
+        let mut rng = Rng::nth(seed, number);
+        let calls = proper_list(&mut lent, &mut rng);
+        if let Some(what) = try_list(&calls, &mut lent, &mut rng, &mut figures) {
+            println!("list {number} of seed {seed} meets the suppositions, but {what}");
+            let smallest = shrink(&calls, |list| try_list(list, &mut lent, &mut rng, &mut Figures::default()).is_some());
+            println!("the smallest list found with a breach:\n{}", text(&smallest));
+            return ExitCode::FAILURE;
+        }
+        number += 1;
+        progress.show(figures.lists, figures.calls);
+    }
+    progress.end(figures.lists, figures.calls);
+    summary(&figures);
+    ExitCode::SUCCESS
+}
+
+fn summary(figures: &Figures) {
+    let [made, params, zeros] = figures.uses;
+    println!("{} lists meet the five suppositions; {} more did not and were not walked", figures.lists, figures.unfit);
+    println!("{} paths through {} blocks, {} uses met on them", figures.paths, figures.blocks, made + params + zeros);
+    println!("answers resolve to a made value {made} times, a parameter {params}, a zero {zeros}; {} were aliases", figures.aliases);
+    println!("{} times the variable had received nothing", figures.zero);
+    println!("no breach");
+}
+
+#[cfg(test)]
+mod tests {
+    use super::*;
+    use sangvireb::raw::*;
+
+    /// Puts another value for the first argument that there is.
+    fn spoil(lent: &mut Lent) -> bool {
+        let form = &mut lent.tables[3];
+        let values = form[VALUE_COUNT];
+        let Some(row) = (0..BLOCKS * DESTS).map(|i| ARG_ROWS + PARAM_ROW * i).find(|&row| form[row] > 0) else { return false };
+        form[row + 1] = (form[row + 1] + 1) % values;
+        true
+    }
+
+    #[test]
+    fn a_wrong_argument_is_met() {
+        let mut lent = Lent::new(1);
+        let (mut spoiled, mut found) = (0, 0);
+        for number in 0..400 {
+            let mut rng = Rng::nth(9, number);
+            let calls = proper_list(&mut lent, &mut rng);
+            lent.run(&calls, &mut rng);
+            if spoil(&mut lent) {
+                spoiled += 1;
+                found += u32::from(breach(&Finished::of(&calls, &lent), &mut rng, &mut Figures::default()).is_some());
+            }
+        }
+        assert!(found * 4 > spoiled && spoiled > 40, "{found} of {spoiled}");
+    }
+}

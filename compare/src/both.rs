@@ -1,0 +1,86 @@
+//! One list, run by the library and by the oracle, and every cell compared.
+use crate::cells;
+use crate::expected::Expected;
+use lists::lent::Lent;
+use lists::rng::Rng;
+use lists::{Call, MAX_CALLS};
+use oracle::hook::Heights;
+use sangvireb::raw::{RUN, UNFIT};
+
+/// Room for scheduled calls and results: document 01's bounds, which the layout of `work` also gives.
+const HIGHEST: Heights = Heights { scheduled: 576, results: 513 };
+
+pub struct Both {
+    pub lent: Lent,
+    pub expected: Expected,
+    pub heights: Heights,
+    rng: Rng,
+    /// changes what the library left, so that a test can see a difference found and shrunk
+    #[cfg(test)]
+    pub planted: Option<fn(&[Call], &mut Lent)>,
+}
+
+impl Both {
+    pub fn new(seed: u64) -> Both {
+        Both {
+            lent: Lent::new(seed),
+            expected: Expected::new(),
+            heights: Heights::default(),
+            rng: Rng::new(seed),
+            #[cfg(test)]
+            planted: None,
+        }
+    }
+
+    /// What differs first, if anything does.
+    pub fn difference(&mut self, calls: &[Call]) -> Option<String> {
+        let session = self.lent.run(calls, &mut self.rng);
+        #[cfg(test)]
+        if let Some(plant) = self.planted {
+            plant(calls, &mut self.lent);
+        }
+        if calls.len() > MAX_CALLS {
+            return self.refused_whole(session);
+        }
+        if session != RUN {
+            return Some(format!("the session answers {session} instead of {RUN}"));
+        }
+        let told = match oracle::run(calls) {
+            Ok(told) => told,
+            Err(why) => return Some(why),
+        };
+        self.heights = told.heights;
+        if told.heights.scheduled > HIGHEST.scheduled || told.heights.results > HIGHEST.results {
+            return Some(format!("{} calls scheduled, {} results: past the bounds", told.heights.scheduled, told.heights.results));
+        }
+        if let Err(why) = self.expected.read(&told.dump, calls.len()) {
+            return Some(why);
+        }
+        self.expected.types(calls);
+        self.differing_cell()
+    }
+
+    /// Too many calls: answer 2, and everything as it was.
+    fn refused_whole(&mut self, session: u32) -> Option<String> {
+        self.heights = Heights::default();
+        if session != UNFIT {
+            return Some(format!("the session answers {session} instead of {UNFIT}"));
+        }
+        (0..5).find_map(|t| self.lent.first_changed(t, 0).map(|cell| format!("{}: changed although the session was refused", cells::name(t, cell))))
+    }
+
+    fn differing_cell(&self) -> Option<String> {
+        for (t, expected) in self.expected.tables().into_iter().enumerate() {
+            let found = &self.lent.tables[t];
+            if found[..expected.len()] != *expected {
+                let cell = (0..expected.len()).find(|&i| found[i] != expected[i]).expect("they differ");
+                return Some(format!("{}: the oracle has {}, the library {}", cells::name(t, cell), expected[cell], found[cell]));
+            }
+            if let Some(cell) = self.lent.first_changed(t, expected.len()) {
+                let (before, now) = (self.lent.before(t, cell), found[cell]);
+                return Some(format!("{}: past the need, held {before} and now {now}", cells::name(t, cell)));
+            }
+        }
+        None
+    }
+}

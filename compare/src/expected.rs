@@ -1,0 +1,100 @@
+//! The cells that a session must leave, from the oracle's dump: docs/LAYOUT.md read in the other direction.
+use sangvireb::raw::*;
+
+/// What must be in the needed cells; the work cells must all be 0.
+pub struct Expected {
+    pub codes: Vec<u32>,
+    pub numbers: Vec<u32>,
+    pub graph: Vec<u32>,
+    pub form: Vec<u32>,
+    work: Vec<u32>,
+}
+
+impl Expected {
+    pub fn new() -> Expected {
+        Expected { codes: vec![], numbers: vec![], graph: vec![0; GRAPH_NEED], form: vec![0; FORM_NEED], work: vec![0; WORK_NEED] }
+    }
+
+    /// In the order in which the tables are lent.
+    pub fn tables(&self) -> [&[u32]; 5] {
+        [&self.codes, &self.numbers, &self.graph, &self.form, &self.work]
+    }
+
+    pub fn read(&mut self, dump: &str, calls: usize) -> Result<(), String> {
+        self.graph.fill(0);
+        self.form.fill(0);
+        for answers in [&mut self.codes, &mut self.numbers] {
+            answers.clear();
+            answers.resize(calls, 0);
+        }
+        let mut numbers: Vec<usize> = Vec::new();
+        for line in dump.lines() {
+            let (letter, rest) = line.split_at(1);
+            numbers.clear();
+            numbers.extend(rest.split_ascii_whitespace().map(|word| word.parse().unwrap_or(usize::MAX)));
+            self.line(letter, &numbers).ok_or_else(|| format!("the oracle printed a line that is not understood: {line}"))?;
+        }
+        Ok(())
+    }
+
+    fn line(&mut self, letter: &str, n: &[usize]) -> Option<()> {
+        match (letter, n) {
+            ("S", [0]) => {}
+            ("C", &[blocks, vars, values, made, zeros]) => self.counts(blocks, vars, values, made, zeros),
+            ("A", &[call, code, number]) => {
+                self.codes[call] = code as u32;
+                self.numbers[call] = number as u32;
+            }
+            ("V", &[value, sort, kind, block, target]) => {
+                for (start, cell) in [(SORT, sort), (TYPE, kind), (BLOCK, block), (TARGET, target)] {
+                    self.form[start + value] = cell as u32;
+                }
+            }
+            ("P", [block, params @ ..]) => row(&mut self.form, PARAM_ROWS + PARAM_ROW * block, params),
+            ("B", &[block, dests]) => {
+                self.graph[BRANCHES + block] = 1;
+                self.graph[DEST_ROWS + DEST_ROW * block] = dests as u32;
+            }
+            ("D", [block, place, dest, args @ ..]) => {
+                self.graph[DEST_ROWS + DEST_ROW * block + 1 + place] = *dest as u32;
+                row(&mut self.form, ARG_ROWS + PARAM_ROW * (DESTS * block + place), args);
+            }
+            ("R", [block, preds @ ..]) => row(&mut self.graph, PRED_ROWS + PRED_ROW * block, preds),
+            ("U", [block, pending @ ..]) => row(&mut self.form, PENDING_ROWS + PARAM_ROW * block, pending),
+            ("E", &[block, sealed]) => self.graph[SEALED + block] = sealed as u32,
+            ("L", &[block, var, value_plus_one]) => self.form[DEFS + BLOCKS * var + block] = value_plus_one as u32,
+            ("Z", &[place, call, block]) => {
+                self.form[ZERO_CALLS + 1 + place] = call as u32;
+                self.form[ZERO_BLOCKS + 1 + place] = block as u32;
+            }
+            ("O", placed) => row(&mut self.form, PLACED, placed),
+            _ => return None,
+        }
+        Some(())
+    }
+
+    fn counts(&mut self, blocks: usize, vars: usize, values: usize, made: usize, zeros: usize) {
+        self.graph[BLOCK_COUNT] = blocks as u32;
+        self.graph[TYPES] = vars as u32;
+        self.form[VALUE_COUNT] = values as u32;
+        self.form[MADE_COUNT] = made as u32;
+        self.form[ZERO_CALLS] = zeros as u32;
+        self.form[ZERO_BLOCKS] = zeros as u32;
+    }
+
+    /// The dump has no types of variables: they follow from the calls that were accepted.
+    pub fn types(&mut self, calls: &[lists::Call]) {
+        for (call, code) in calls.iter().zip(&self.codes) {
+            if call[0] == 2 && *code == 0 {
+                self.graph[TYPES + 1 + call[1] as usize] = call[2];
+            }
+        }
+    }
+}
+
+fn row(cells: &mut [u32], start: usize, entries: &[usize]) {
+    cells[start] = entries.len() as u32;
+    for (cell, &entry) in cells[start + 1..].iter_mut().zip(entries) {
+        *cell = entry as u32;
+    }
+}

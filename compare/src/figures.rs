@@ -1,0 +1,98 @@
+//! What the lists had in them, so that a run shows what it has tried.
+use crate::both::Both;
+use lists::{Call, MAX_CALLS};
+use sangvireb::raw::*;
+
+const CODES: usize = 14;
+const KINDS: usize = 16;
+
+#[derive(Clone, Default)]
+pub struct Figures {
+    pub lists: u64,
+    pub calls: u64,
+    codes: [u64; CODES],
+    kinds: [u64; KINDS],
+    accepted: [u64; KINDS],
+    /// most in one list: calls, values, zeros, alias links in a chain, arguments of a destination, scheduled calls, results
+    most: [usize; 7],
+    unfit: u64,
+}
+
+impl Figures {
+    /// Counts a list that was just compared.
+    pub fn count(&mut self, calls: &[Call], both: &Both) {
+        self.lists += 1;
+        self.calls += calls.len() as u64;
+        if calls.len() > MAX_CALLS {
+            self.unfit += 1;
+            return;
+        }
+        for (call, &code) in calls.iter().zip(both.lent.codes()) {
+            let kind = (call[0] as usize).min(KINDS - 1);
+            self.kinds[kind] += 1;
+            self.accepted[kind] += u64::from(code == 0);
+            self.codes[(code as usize).min(CODES - 1)] += 1;
+        }
+        let form = both.lent.form();
+        let (values, zeros) = (form[VALUE_COUNT] as usize, form[ZERO_CALLS] as usize);
+        let args = (0..BLOCKS * DESTS).map(|i| form[ARG_ROWS + PARAM_ROW * i] as usize).max().unwrap_or(0);
+        let links = longest_chain(&form[TARGET..TARGET + values]);
+        let heights = [both.heights.scheduled, both.heights.results];
+        self.raise([calls.len(), values, zeros, links, args, heights[0], heights[1]]);
+    }
+
+    fn raise(&mut self, seen: [usize; 7]) {
+        self.most.iter_mut().zip(seen).for_each(|(most, seen)| *most = seen.max(*most));
+    }
+
+    pub fn add(&mut self, other: &Figures) {
+        self.lists += other.lists;
+        self.calls += other.calls;
+        self.unfit += other.unfit;
+        let sum = |mine: &mut [u64], theirs: &[u64]| mine.iter_mut().zip(theirs).for_each(|(m, t)| *m += t);
+        sum(&mut self.codes, &other.codes);
+        sum(&mut self.kinds, &other.kinds);
+        sum(&mut self.accepted, &other.accepted);
+        self.raise(other.most);
+    }
+
+    pub fn brief(&self) -> String {
+        let [calls, values, zeros, links, args, scheduled, results] = self.most;
+        format!(
+            "{} lists, {} calls, {}% accepted; at most {calls} calls, {values} values, {zeros} zeros, {links} alias links, {args} arguments, \
+             {scheduled} scheduled, {results} results",
+            self.lists,
+            self.calls,
+            100 * self.codes[0] / self.calls.max(1)
+        )
+    }
+
+    /// How often each code and each kind came.
+    pub fn full(&self) -> String {
+        let codes: Vec<String> = (0..CODES).filter(|&c| self.codes[c] > 0).map(|c| format!("{c}: {}", self.codes[c])).collect();
+        let kinds: Vec<String> = (0..KINDS).map(|k| format!("{k}: {}/{}", self.accepted[k], self.kinds[k])).collect();
+        format!("codes      {}\nsessions refused with 2: {}\naccepted/asked by kind (15: 15 and above)\n           {}", codes.join("  "), self.unfit, kinds.join("  "))
+    }
+}
+
+/// How many links the longest chain of aliases has.
+fn longest_chain(targets: &[u32]) -> usize {
+    let mut known: Vec<Option<usize>> = vec![None; targets.len()];
+    let mut most = 0;
+    for start in 0..targets.len() {
+        let mut passed = vec![];
+        let mut at = start;
+        while known[at].is_none() && targets[at] as usize != at && passed.len() < targets.len() {
+            passed.push(at);
+            at = targets[at] as usize;
+        }
+        let mut links = known[at].unwrap_or(0);
+        known[at] = Some(links);
+        for value in passed.into_iter().rev() {
+            links += 1;
+            known[value] = Some(links);
+        }
+        most = most.max(links);
+    }
+    most
+}
