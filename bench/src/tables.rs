@@ -34,27 +34,36 @@ fn shown(spread: Spread) -> String {
     format!("{} ({} to {})", digits(spread.median), digits(spread.low), digits(spread.high))
 }
 
+const COLUMNS: [&str; 10] = [
+    "calls",
+    "crate, new",
+    "crate, cleared",
+    "library",
+    "without clearing",
+    "to new",
+    "to cleared",
+    "least",
+    "ns a call: crate",
+    "library",
+];
+
 /// Lists with their times, one a line; the worst of them in the last.
 fn whole(what: &str, lists: impl Iterator<Item = (String, Times)>) {
-    println!(
-        "\n| {what} | calls | crate, new | crate, cleared | library | without clearing | to new | to cleared | ns a call: crate | library |"
-    );
-    println!("|---|---|---|---|---|---|---|---|---|---|");
-    let (mut worst, mut noise) = ((0.0, 0.0), 0.0);
+    println!("\n| {what} | {} |", COLUMNS.join(" | "));
+    println!("|---{}|", "|---".repeat(COLUMNS.len()));
+    let (mut worst, mut noise) = ([0.0; 3], 0.0);
     for (name, times) in lists {
-        let session = times.session.median;
-        let (new, cleared) = (session / times.fresh.median, session / times.cleared.median);
-        let each = |micros: f64| micros * 1000.0 / times.calls as f64;
+        let ratios = times.ratios();
+        let each = |spread: Spread| spread.median * 1000.0 / times.calls as f64;
         print!("| {name} | {} | {} | {} | {} ", times.calls, shown(times.fresh), shown(times.cleared), shown(times.session));
-        print!("| {} | {new:.2} | {cleared:.2} ", digits(times.work()));
-        println!("| {:.0} | {:.0} |", each(times.cleared.median), each(session));
-        worst = (f64::max(worst.0, new), f64::max(worst.1, cleared));
+        print!("| {} | {} ", digits(times.work(|spread| spread.median)), ratios.map(|ratio| format!("{ratio:.2}")).join(" | "));
+        println!("| {:.0} | {:.0} |", each(times.cleared), each(times.session));
+        (0..3).for_each(|i| worst[i] = f64::max(worst[i], ratios[i]));
         noise = f64::max(noise, times.noise());
     }
+    let [new, cleared, least] = worst;
     println!(
-        "\nworst: {:.2} times the crate's, new; {:.2} cleared; quartiles apart at most {:.0} % of the median",
-        worst.0,
-        worst.1,
+        "\nworst: {new:.2} to new, {cleared:.2} to cleared, {least:.2} least; quartiles apart at most {:.0} % of the median",
         noise * 100.0
     );
 }
@@ -73,14 +82,14 @@ pub fn growth(reps: usize) {
     whole("uses", USES.iter().map(|&n| (n.to_string(), Times::of("uses", &with_uses(n), reps))));
 }
 
-/// The library without clearing, and the crate cleared, as one of the two sizes grows.
+/// The library without clearing, and the crate cleared, as one of the two sizes grows: the least of each, lest noise hide the growth.
 fn by(what: &str, size: fn(u32) -> Size, reps: usize) {
     println!("\n| ladder | {} |", SIZES.map(|n| format!("{n} {what}")).join(" | "));
     println!("|---{}|", "|---".repeat(SIZES.len()));
     for shape in SHAPES {
         let cell = |n| {
             let times = Times::of(shape.name, &shape.calls(size(n)), reps);
-            format!("{} / {}", digits(times.work()), digits(times.cleared.median))
+            format!("{} / {}", digits(times.work(|spread| spread.least)), digits(times.cleared.least))
         };
         println!("| `{}` | {} |", shape.name, SIZES.map(cell).join(" | "));
     }

@@ -7,9 +7,10 @@ use std::time::{Duration, Instant};
 
 const WARM_UP: usize = 20;
 
-/// Of many repetitions, in microseconds: the median, and half of them lie between the other two.
+/// Of many repetitions, in microseconds: the least, which comes nearest to a machine at rest; the median; half of them lie from low to high.
 #[derive(Clone, Copy)]
 pub struct Spread {
+    pub least: f64,
     pub low: f64,
     pub median: f64,
     pub high: f64,
@@ -19,7 +20,7 @@ impl Spread {
     fn of(mut samples: Vec<Duration>) -> Spread {
         samples.sort();
         let at = |quarter: usize| samples[(samples.len() - 1) * quarter / 4].as_nanos() as f64 / 1000.0;
-        Spread { low: at(1), median: at(2), high: at(3) }
+        Spread { least: at(0), low: at(1), median: at(2), high: at(3) }
     }
 
     /// The quartiles' distance, as a part of the median.
@@ -54,9 +55,15 @@ impl Times {
         Times { calls: calls.len(), fresh, cleared, session, clearing }
     }
 
-    /// The session without the time that clearing takes by itself.
-    pub fn work(&self) -> f64 {
-        self.session.median - self.clearing.median
+    /// The session without the time that clearing takes by itself: of the medians, or of the least.
+    pub fn work(&self, of: fn(Spread) -> f64) -> f64 {
+        of(self.session) - of(self.clearing)
+    }
+
+    /// The whole session's time to the crate's: new, cleared, and the least of it to the least of the crate's, cleared.
+    pub fn ratios(&self) -> [f64; 3] {
+        let session = self.session;
+        [session.median / self.fresh.median, session.median / self.cleared.median, session.least / self.cleared.least]
     }
 
     pub fn noise(&self) -> f64 {
