@@ -20,7 +20,7 @@ only --list NAME --side crate|library [--reps N]   one ladder on one side, for a
 
 fn main() -> ExitCode {
     let words = Words::of_command_line();
-    let reps = words.number("--reps", 501).max(1) as usize;
+    let reps = words.number("--reps", 1001).max(1) as usize;
     let command = words.command();
     let parts: [(&str, fn(usize)); 3] = [("ladders", tables::ladders), ("growth", tables::growth), ("recipes", tables::recipes)];
     if command == "only" {

@@ -41,6 +41,9 @@ impl Times {
     /// One repetition runs each in turn, the crate and the library alternately, so that what slows the machine slows both.
     pub fn of(name: &str, calls: &[Call], reps: usize) -> Times {
         let (mut given, mut library) = (Given::new(calls), Library::new(calls));
+        given.cleared();
+        library.session();
+        agree::check(name, calls, &given, &library);
         let mut samples: [Vec<Duration>; 4] = Default::default();
         for rep in 0..WARM_UP + reps {
             let took = [given.fresh(), library.session(), given.cleared(), library.clearing()];
@@ -48,9 +51,6 @@ impl Times {
                 samples.iter_mut().zip(took).for_each(|(all, one)| all.push(one));
             }
         }
-        given.cleared();
-        library.session();
-        agree::check(name, calls, &given, &library);
         let [fresh, session, cleared, clearing] = samples.map(Spread::of);
         Times { calls: calls.len(), fresh, cleared, session, clearing }
     }
