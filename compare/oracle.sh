@@ -15,6 +15,12 @@ while [ $# -gt 0 ]; do
 done
 with=(--quiet --release --offline --jobs 1 --target-dir "$here/target")
 
+# What the caller says of itself, then the options above.
+usage() {
+    sed -n '2,/^[^#]/s/^# //p' "$0"
+    sed -n 's/^# \(  .*\)/\1/p' "${BASH_SOURCE[0]}"
+}
+
 need_library() {
     [ -f "${SANGVIREB_LIB:-$root/target/staticlib}/libexports.a" ] || (cd "$root" && rt staticlib exports)
 }

@@ -11,30 +11,25 @@ mod times;
 use lists::words::Words;
 use std::process::ExitCode;
 
-const USAGE: &str = "\
-all [--reps N]      everything below
-ladders [--reps N]  the eight ladders at 64 blocks and 64 variables
-growth [--reps N]   with blocks, variables and calls
-recipes [--reps N]  short lists
-only --list NAME --side crate|library [--reps N]   one ladder on one side, for a profiler";
+const PARTS: [(&str, fn(usize)); 3] = [("ladders", tables::ladders), ("growth", tables::growth), ("recipes", tables::recipes)];
 
 fn main() -> ExitCode {
     let words = Words::of_command_line();
     let reps = words.number("--reps", 1001).max(1) as usize;
     let command = words.command();
-    let parts: [(&str, fn(usize)); 3] = [("ladders", tables::ladders), ("growth", tables::growth), ("recipes", tables::recipes)];
     if command == "only" {
+        words.only(&["--reps", "--list", "--side"]);
         only(&words, reps);
         return ExitCode::SUCCESS;
     }
-    if command != "all" && parts.iter().all(|(name, _)| *name != command) {
-        eprintln!("{USAGE}");
+    words.only(&["--reps"]);
+    let parts: Vec<_> = PARTS.iter().filter(|(name, _)| command == "all" || command == *name).collect();
+    if parts.is_empty() {
+        eprintln!("{command} is not known; bench/run names the commands");
         return ExitCode::from(2);
     }
     tables::machine(reps);
-    for (_, part) in parts.iter().filter(|(name, _)| command == "all" || command == *name) {
-        part(reps);
-    }
+    parts.iter().for_each(|(_, part)| part(reps));
     tables::load();
     ExitCode::SUCCESS
 }

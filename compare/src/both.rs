@@ -17,7 +17,7 @@ pub struct Both {
     rng: Rng,
     /// changes what the library left, so that a test can see a difference found and shrunk
     #[cfg(test)]
-    pub planted: Option<fn(&[Call], &mut Lent)>,
+    pub planted: Option<Box<dyn Fn(&[Call], &mut Lent)>>,
 }
 
 impl Both {
@@ -36,7 +36,7 @@ impl Both {
     pub fn difference(&mut self, calls: &[Call]) -> Option<String> {
         let session = self.lent.run(calls, &mut self.rng);
         #[cfg(test)]
-        if let Some(plant) = self.planted {
+        if let Some(plant) = &self.planted {
             plant(calls, &mut self.lent);
         }
         if calls.len() > MAX_CALLS {
@@ -82,5 +82,40 @@ impl Both {
             }
         }
         None
+    }
+}
+
+#[cfg(test)]
+mod tests {
+    use super::*;
+    use lists::lent::TABLES;
+
+    /// The difference when this cell of this table is changed after a session.
+    fn changed(table: usize, cell: impl Fn(usize) -> usize + 'static) -> Option<String> {
+        let mut both = Both::new(8);
+        both.planted = Some(Box::new(move |_, lent| {
+            let cells = &mut lent.tables[table];
+            let at = cell(cells.len());
+            cells[at] ^= 1 << 9;
+        }));
+        both.difference(&[[1, 0, 0, 0], [2, 0, 2, 0], [11, 0, 0, 0], [6, 0, 0, 0]])
+    }
+
+    #[test]
+    fn a_change_of_any_cell_is_a_difference() {
+        for table in 0..TABLES.len() {
+            assert!(changed(table, |_| 0).is_some());
+            assert!(changed(table, |len| len - 1).is_some());
+            for part in 1..100 {
+                assert!(changed(table, move |len| len * part / 100).is_some());
+            }
+        }
+    }
+
+    #[test]
+    fn a_difference_names_its_cell() {
+        let named = changed(3, |_| 65_733).expect("it differs");
+        assert_eq!(named, "form cell 65733: last definitions of variable 0, block 0: the oracle has 1, the library 513");
+        assert_eq!(cells::name(3, 69_829 + 65 * 13 + 2), "form cell 70676: arguments of branch 1, destination 5, entry 1");
     }
 }

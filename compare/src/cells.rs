@@ -27,7 +27,7 @@ const FORM: [Part; 13] = [
     (PARAM_ROWS, "parameters", PARAM_ROW, "block"),
     (PENDING_ROWS, "pending variables", PARAM_ROW, "block"),
     (DEFS, "last definitions", BLOCKS, "variable"),
-    (ARG_ROWS, "arguments", PARAM_ROW, "destination (8 a branch)"),
+    (ARG_ROWS, "arguments", PARAM_ROW, "destination"),
 ];
 
 /// The name of a cell of one of the five tables.
@@ -41,7 +41,11 @@ pub fn name(table: usize, cell: usize) -> String {
     };
     let &(start, name, long, of) = parts.iter().rev().find(|part| part.0 <= cell).expect("the first table starts at 0");
     let (row, place) = ((cell - start) / long, (cell - start) % long);
-    let whose = if of.is_empty() { String::new() } else { format!(" of {of} {row}") };
+    let whose = match of {
+        "" => String::new(),
+        "destination" => format!(" of branch {}, destination {}", row / DESTS, row % DESTS),
+        _ => format!(" of {of} {row}"),
+    };
     let which = match (long, name) {
         (1, _) => String::new(),
         (_, "last definitions") => format!(", block {place}"),

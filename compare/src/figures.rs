@@ -71,7 +71,8 @@ impl Figures {
     pub fn full(&self) -> String {
         let codes: Vec<String> = (0..CODES).filter(|&c| self.codes[c] > 0).map(|c| format!("{c}: {}", self.codes[c])).collect();
         let kinds: Vec<String> = (0..KINDS).map(|k| format!("{k}: {}/{}", self.accepted[k], self.kinds[k])).collect();
-        format!("codes      {}\nsessions refused with 2: {}\naccepted/asked by kind (15: 15 and above)\n           {}", codes.join("  "), self.unfit, kinds.join("  "))
+        let (codes, kinds) = (codes.join("  "), kinds.join("  "));
+        format!("codes: {codes}\nsessions refused with 2: {}\naccepted/asked by kind, 15 for all above 14: {kinds}", self.unfit)
     }
 }
 

@@ -40,7 +40,7 @@ mod tests {
 
     fn smallest_with(plant: fn(&[Call], &mut Lent)) -> Vec<Call> {
         let mut both = Both::new(3);
-        both.planted = Some(plant);
+        both.planted = Some(Box::new(plant));
         let mut rng = Rng::new(5);
         loop {
             let calls = lists::random(Shape::Dense, &mut both.lent, &mut rng);
@@ -64,7 +64,7 @@ mod tests {
         let smallest = smallest_with(lost_argument);
         assert!(smallest.len() <= 20, "{}", text(&smallest));
         let mut both = Both::new(3);
-        both.planted = Some(lost_argument);
+        both.planted = Some(Box::new(lost_argument));
         assert!((0..smallest.len()).all(|i| both.difference(&without_calls(&smallest, i, 1)).is_none()));
     }
 

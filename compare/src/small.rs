@@ -8,6 +8,11 @@ use std::process::ExitCode;
 
 pub fn run(only: Option<&str>) -> ExitCode {
     let parts = || PARTS.iter().filter(|part| only.map_or(!part.long, |name| name == part.name));
+    if parts().next().is_none() {
+        let names: Vec<&str> = PARTS.iter().map(|part| part.name).collect();
+        eprintln!("the parts are {}", names.join(", "));
+        return ExitCode::from(2);
+    }
     let mut sum = 0;
     parts().for_each(|part| {
         (part.each)(&mut |_| {

@@ -25,6 +25,7 @@ pub struct Draft<'r> {
     owed: Vec<(usize, usize)>,
     /// edges (block, branch) that wait to be declared
     waiting: Vec<(u32, u32)>,
+    declared: Vec<(u32, u32)>,
     /// how many edges into each block are not declared yet
     missing: Vec<u32>,
     sealed: Vec<bool>,
@@ -40,7 +41,21 @@ impl<'r> Draft<'r> {
         }
         let types = (0..manner.vars).map(|_| if manner.many_types { rng.below(6) } else { 2 }).collect();
         let sealed = vec![false; graph.len()];
-        Draft { rng, manner, graph, calls: vec![], blocks: 0, types, uses: vec![], makes: 0, owed: vec![], waiting: vec![], missing, sealed }
+        Draft {
+            rng,
+            manner,
+            graph,
+            types,
+            missing,
+            sealed,
+            blocks: 0,
+            makes: 0,
+            calls: vec![],
+            uses: vec![],
+            owed: vec![],
+            waiting: vec![],
+            declared: vec![],
+        }
     }
 
     /// The whole list, where each definition takes the value that was made for it, as far as a few runs find its number.
@@ -212,17 +227,31 @@ impl<'r> Draft<'r> {
         while self.waiting.len() > leave {
             let (d, b) = self.waiting.remove(0);
             self.push([9, d, b, 0]);
-            if self.rng.chance(self.manner.removed, 100) {
-                self.push([10, d, b, 0]);
-                if self.manner.proper || self.rng.chance(2, 3) {
-                    self.waiting.push((d, b));
-                }
-                continue;
+            self.declared.push((d, b));
+            self.missing[d as usize] -= 1;
+            if self.rng.chance(self.manner.removed, 400) {
+                self.push([9, d, b, 0]);
             }
-            self.missing[d as usize] = self.missing[d as usize].saturating_sub(1);
+            if self.rng.chance(self.manner.removed, 100) {
+                self.remove_an_edge();
+            }
             if self.manner.sealing == Sealing::WhenComplete && self.missing[d as usize] == 0 && !self.sealed[d as usize] {
                 self.seal(d);
             }
+        }
+    }
+
+    /// Any edge into an unsealed block; mostly it is declared again later.
+    fn remove_an_edge(&mut self) {
+        let open: Vec<usize> = (0..self.declared.len()).filter(|&i| !self.sealed[self.declared[i].0 as usize]).collect();
+        if open.is_empty() {
+            return;
+        }
+        let (d, b) = self.declared.remove(self.rng.pick(&open));
+        self.push([10, d, b, 0]);
+        if self.manner.proper || self.rng.chance(2, 3) {
+            self.waiting.push((d, b));
+            self.missing[d as usize] += 1;
         }
     }
 

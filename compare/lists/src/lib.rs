@@ -1,7 +1,9 @@
 //! Lists of calls: made at random, run by the library, shrunk, walked on paths. Needs nothing but the library.
 pub mod draft;
+pub mod fence;
 pub mod fields;
 pub mod finished;
+pub mod hostile;
 pub mod lent;
 pub mod limits;
 pub mod manner;
@@ -56,4 +58,30 @@ pub fn text(calls: &[Call]) -> String {
         text += &format!("{kind} {x} {y} {z}\n");
     }
     text
+}
+
+/// The lists of such a text; nothing if it is none.
+pub fn read(text: &str) -> Option<Vec<Vec<Call>>> {
+    let mut numbers = text.split_ascii_whitespace().map(|word| word.parse::<u32>().ok());
+    let mut lists = Vec::new();
+    while let Some(length) = numbers.next() {
+        let call = |_| Some([numbers.next()??, numbers.next()??, numbers.next()??, numbers.next()??]);
+        lists.push((0..length?).map(call).collect::<Option<Vec<Call>>>()?);
+    }
+    Some(lists)
+}
+
+#[cfg(test)]
+mod tests {
+    use super::*;
+
+    #[test]
+    fn seed_and_number_determine_a_list() {
+        let (mut one, mut other) = (Lent::new(1), Lent::new(2));
+        for number in 0..200 {
+            let shape = shapes::SHAPES[number as usize % shapes::SHAPES.len()];
+            let list = |lent| random(shape, lent, &mut Rng::nth(5, number));
+            assert_eq!(list(&mut one), list(&mut other));
+        }
+    }
 }

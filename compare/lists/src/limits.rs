@@ -4,14 +4,35 @@ use crate::{Call, MAX_CALLS, odd};
 use sangvireb::raw::{BLOCKS, DESTS, MADE, VARIABLES};
 
 pub fn list(rng: &mut Rng) -> Vec<Call> {
-    match rng.below(6) {
+    match rng.below(7) {
         0 => made_values(rng),
         1 => every_cell(rng),
         2 => full_lookup(rng),
         3 => alias_chain(rng),
         4 => arguments(rng),
+        5 => waiting_results(rng),
         _ => calls(rng),
     }
+}
+
+/// A list for each limit, always the same: what is just accepted, and what is refused after it.
+pub fn fixed() -> Vec<Vec<Call>> {
+    let mut rng = Rng::new(0);
+    let chain = one_chain(16, 16, |_| {});
+    let one_too_many = vec![[12, 0, 0, 0]; MAX_CALLS + 1];
+    vec![arguments(&mut rng), full_lookup(&mut rng), waiting_results(&mut rng), chain, everything(), one_too_many]
+}
+
+/// As many calls as a list can have, and as many values: made, and a parameter and a zero for each variable in each block, none of which has a way in.
+fn everything() -> Vec<Call> {
+    let mut calls = declared(BLOCKS, VARIABLES);
+    calls.extend((0..MADE + 1).map(|_| [3, 0, 2, 0]));
+    calls.push([12, 0, 0, 0]);
+    for _ in 0..2 {
+        calls.extend((0..BLOCKS as u32).flat_map(|b| (0..VARIABLES as u32).map(move |v| [6, v, b, 0])));
+    }
+    calls.resize(MAX_CALLS, [14, 0, 0, 0]);
+    calls
 }
 
 /// One more block and variable than there can be: the last of each is refused.
@@ -64,42 +85,71 @@ fn every_cell(rng: &mut Rng) -> Vec<Call> {
     calls
 }
 
-/// Sealed blocks that all branch eight ways: one use schedules as many calls as a run can.
+/// Sealed blocks that all branch to eight others: one use schedules as many calls as a run can.
 fn full_lookup(rng: &mut Rng) -> Vec<Call> {
     let mut calls = declared(BLOCKS, 2);
-    let b = BLOCKS as u32;
-    for p in 0..b {
+    let (blocks, dests) = (BLOCKS as u32, DESTS as u32);
+    let (stride, offset) = (2 * rng.below(blocks / 2) + 1, rng.below(blocks));
+    let mut turns: Vec<u32> = (0..blocks).collect();
+    if rng.chance(1, 2) {
+        rng.shuffle(&mut turns);
+    }
+    for p in turns {
+        let named: Vec<u32> = (0..dests).map(|i| (p + offset + i * stride) % blocks).collect();
         calls.push([7, p, 0, 0]);
-        let next = |i: u32| if i == 0 { (p + 1) % b } else { (p * DESTS as u32 + i) % b };
-        let near: Vec<u32> = (0..DESTS as u32).map(|i| if rng.chance(1, 2) { next(i) } else { (p + i) % b }).collect();
-        calls.extend(near.iter().map(|&d| [8, p, d, 0]));
-        calls.extend(near.iter().map(|&d| [9, d, p, 0]));
+        calls.extend(named.iter().map(|&d| [8, p, d, 0]));
+        calls.extend(named.iter().map(|&d| [9, d, p, 0]));
     }
     calls.push([12, 0, 0, 0]);
-    calls.extend((0..8).map(|_| [6, rng.below(2), rng.below(b), 0]));
+    calls.extend((0..8).map(|_| [6, rng.below(2), rng.below(blocks), 0]));
     calls
 }
 
-/// A line of unsealed blocks, each variable given what the one before it answered at the line's end: sealing from the front makes one long chain.
+/// Each block is entered by those before it, which have their answer by then, and last by the one after it: results wait while that is read.
+fn waiting_results(rng: &mut Rng) -> Vec<Call> {
+    let mut calls = declared(BLOCKS, 1);
+    let (blocks, back) = (BLOCKS as u32, rng.within(4, DESTS as u32 - 1));
+    for p in 0..blocks {
+        calls.push([7, p, 0, 0]);
+        let named = (p + 1..blocks.min(p + back + 1)).chain(p.checked_sub(1));
+        calls.extend(named.map(|d| [8, p, d, 0]));
+    }
+    for b in 0..blocks {
+        let entered = (b.saturating_sub(back)..b).chain((b + 1 < blocks).then_some(b + 1));
+        calls.extend(entered.map(|p| [9, b, p, 0]));
+    }
+    calls.extend([[12, 0, 0, 0], [6, 0, rng.below(3), 0], [6, 0, rng.below(blocks), 0]]);
+    calls
+}
+
+/// The longest chain that there can be, or a short one, or one that another order of seals breaks up.
 fn alias_chain(rng: &mut Rng) -> Vec<Call> {
-    let (blocks, vars) = (BLOCKS as u32, rng.within(2, VARIABLES as u32));
-    let mut calls = declared(BLOCKS, vars as usize);
+    match rng.below(4) {
+        0 => one_chain(rng.within(2, 20), rng.within(1, 20), |_| {}),
+        1 => one_chain(rng.within(2, 20), rng.within(1, 20), |seals| rng.shuffle(seals)),
+        _ => one_chain(BLOCKS as u32, VARIABLES as u32, |_| {}),
+    }
+}
+
+/// A line of blocks, all parameters of which become one chain. In each block every variable is used, the last first; then the block before is told
+/// that variable k is what k - 1 was there, and variable 0 what the last one is one block earlier. Sealed from the end of the line, each parameter
+/// becomes an alias of the next before that is one itself.
+fn one_chain(blocks: u32, vars: u32, order: impl FnOnce(&mut [u32])) -> Vec<Call> {
+    let mut calls = declared(blocks as usize - 1, vars as usize - 1);
     for b in 0..blocks - 1 {
         calls.extend([[7, b, 0, 0], [8, b, b + 1, 0], [9, b + 1, b, 0]]);
     }
-    for v in 0..vars {
-        if v > 0 {
-            let last = calls.len() as u32 - 1;
-            calls.push([5, v, last, 0]);
-        }
-        calls.extend((0..blocks).map(|b| [6, v, b, 0]));
+    let first = calls.len() as u32;
+    let answer = |b: u32, v: u32| first + b * vars + vars - 1 - v;
+    for b in 0..blocks {
+        calls.extend((0..vars).rev().map(|v| [6, v, b, 0]));
     }
-    let mut seals: Vec<u32> = (0..blocks).collect();
-    match rng.below(3) {
-        0 => seals.reverse(),
-        1 => rng.shuffle(&mut seals),
-        _ => {}
+    for b in 1..blocks {
+        calls.push([5, 0, answer(b - 1, vars - 1), b - 1]);
+        calls.extend((1..vars).map(|v| [5, v, answer(b, v - 1), b - 1]));
     }
+    let mut seals: Vec<u32> = (0..blocks).rev().collect();
+    order(&mut seals);
     calls.extend(seals.iter().map(|&b| [11, b, 0, 0]));
     calls
 }

@@ -47,7 +47,7 @@ impl Shape {
     fn dests(self, b: u32, n: u32, rng: &mut Rng) -> Vec<u32> {
         let mut dests = match self {
             Shape::Ladder => vec![b + 1, b + 2],
-            Shape::Diamonds => if b % 3 == 0 { vec![b + 1, b + 2] } else { vec![b - b % 3 + 3] },
+            Shape::Diamonds => if b.is_multiple_of(3) { vec![b + 1, b + 2] } else { vec![b - b % 3 + 3] },
             Shape::Loops => back_and_on(b, rng),
             Shape::Nest => if b < n / 2 { vec![b + 1] } else { vec![n - 1 - b, b + 1] },
             Shape::Irreducible => if b == 0 { some(2, 3, n, rng) } else { vec![b % n.max(2) + 1, rng.below(n)] },

@@ -1,6 +1,7 @@
 //! All small lists: every graph of up to three blocks, with definitions, uses, branches and seals in every order. README.md says what each part has.
 use crate::Call;
 use crate::shapes::Graph;
+use std::slice::from_ref;
 
 /// A visitor of lists; it says whether to go on.
 pub type Visit<'v> = &'v mut dyn FnMut(&[Call]) -> bool;
@@ -111,7 +112,7 @@ fn twice(set: &[u32]) -> Vec<u32> {
 fn graphs(n: u32, choices: &[Vec<u32>]) -> Vec<Graph> {
     let mut all: Vec<Graph> = vec![vec![]];
     for _ in 0..n {
-        all = all.iter().flat_map(|graph| choices.iter().map(|dests| [&graph[..], &[dests.clone()]].concat())).collect();
+        all = all.iter().flat_map(|graph| choices.iter().map(|dests| [graph, from_ref(dests)].concat())).collect();
     }
     all
 }

@@ -12,6 +12,14 @@ impl Words {
         self.0.first().map_or("help", String::as_str)
     }
 
+    /// Ends the program at a name that nobody reads, which would be a slip of the pen.
+    pub fn only(&self, names: &[&str]) {
+        if let Some(unknown) = self.0.iter().skip(1).find(|word| word.starts_with("--") && !names.contains(&word.as_str())) {
+            eprintln!("{unknown} is not known here; known are {}", names.join(" "));
+            process::exit(2)
+        }
+    }
+
     pub fn has(&self, name: &str) -> bool {
         self.0.iter().any(|word| word == name)
     }
