@@ -43,6 +43,15 @@ pub fn run(lists: u64, seed: u64, first: u64, only: Option<Shape>) -> ExitCode {
     ExitCode::SUCCESS
 }
 
+/// Prints the lists instead of running them, for the program `sangvireb` and for the oracle's own driver.
+pub fn emit(lists: u64, seed: u64, first: u64, only: Option<Shape>) -> ExitCode {
+    let mut both = Both::new(seed);
+    for number in first..first + lists {
+        print!("{}", lists::text(&list(seed, number, only, &mut both).1));
+    }
+    ExitCode::SUCCESS
+}
+
 fn summary(by_shape: &[Figures]) {
     let mut all = Figures::default();
     for (shape, figures) in SHAPES.iter().zip(by_shape).filter(|(_, figures)| figures.lists > 0) {

@@ -130,7 +130,7 @@ pub fn session(
 ) -> u32 {
     // SAFETY: the proved contract has no precondition: any lengths, any contents. Each pair is a slice's own pointer and length, so all of it
     // may be read and, for the last five, written; the borrow checker keeps those five apart from one another and from the four lists read.
-    // The library keeps no pointer after it returns.
+    // The library keeps no pointer after it returns and has no state of its own, so threads may call it at once.
     unsafe {
         sangvireb_session(
             kinds.as_ptr(),

@@ -1,5 +1,5 @@
-//! The constants of `raw` are those of the C header, none left out.
-use sangvireb::raw;
+//! The constants of `raw` and the refusals are those of the C header, none left out.
+use sangvireb::{raw, Refusal};
 use std::collections::BTreeMap;
 use std::fs;
 
@@ -18,6 +18,18 @@ macro_rules! of_raw {
     ($($name:ident)*) => { [$((stringify!($name).to_string(), raw::$name as usize)),*] };
 }
 
+/// `NoEdge` is `NO_EDGE` in C.
+fn in_c(refusal: Refusal) -> String {
+    let mut name = String::new();
+    for letter in format!("{refusal:?}").chars() {
+        if letter.is_uppercase() && !name.is_empty() {
+            name.push('_');
+        }
+        name.push(letter.to_ascii_uppercase());
+    }
+    name
+}
+
 #[test]
 fn the_constants_are_the_headers() {
     let mut expected = header();
@@ -27,9 +39,9 @@ fn the_constants_are_the_headers() {
         VALUE_COUNT MADE_COUNT TARGET SORT TYPE BLOCK PLACED ZERO_CALLS ZERO_BLOCKS PARAM_ROWS PENDING_ROWS DEFS ARG_ROWS PARAM_ROW
         RUN SHORT UNFIT
     );
-    for (name, number) in ours {
+    let refusals = Refusal::ALL.map(|refusal| (in_c(refusal), refusal.code() as usize));
+    for (name, number) in ours.into_iter().chain(refusals) {
         assert_eq!(expected.remove(&name), Some(number), "{name}");
     }
-    expected.retain(|_, number| !(3..=14).contains(number));
-    assert!(expected.is_empty(), "not in raw: {expected:?}");
+    assert!(expected.is_empty(), "not here: {expected:?}");
 }

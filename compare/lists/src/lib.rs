@@ -60,6 +60,17 @@ pub fn text(calls: &[Call]) -> String {
     text
 }
 
+/// The lists of such a text; nothing if it is none.
+pub fn read(text: &str) -> Option<Vec<Vec<Call>>> {
+    let mut numbers = text.split_ascii_whitespace().map(|word| word.parse::<u32>().ok());
+    let mut lists = Vec::new();
+    while let Some(length) = numbers.next() {
+        let call = |_| Some([numbers.next()??, numbers.next()??, numbers.next()??, numbers.next()??]);
+        lists.push((0..length?).map(call).collect::<Option<Vec<Call>>>()?);
+    }
+    Some(lists)
+}
+
 #[cfg(test)]
 mod tests {
     use super::*;

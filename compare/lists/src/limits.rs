@@ -15,6 +15,26 @@ pub fn list(rng: &mut Rng) -> Vec<Call> {
     }
 }
 
+/// A list for each limit, always the same: what is just accepted, and what is refused after it.
+pub fn fixed() -> Vec<Vec<Call>> {
+    let mut rng = Rng::new(0);
+    let chain = one_chain(16, 16, |_| {});
+    let one_too_many = vec![[12, 0, 0, 0]; MAX_CALLS + 1];
+    vec![arguments(&mut rng), full_lookup(&mut rng), waiting_results(&mut rng), chain, everything(), one_too_many]
+}
+
+/// As many calls as a list can have, and as many values: made, and a parameter and a zero for each variable in each block, none of which has a way in.
+fn everything() -> Vec<Call> {
+    let mut calls = declared(BLOCKS, VARIABLES);
+    calls.extend((0..MADE + 1).map(|_| [3, 0, 2, 0]));
+    calls.push([12, 0, 0, 0]);
+    for _ in 0..2 {
+        calls.extend((0..BLOCKS as u32).flat_map(|b| (0..VARIABLES as u32).map(move |v| [6, v, b, 0])));
+    }
+    calls.resize(MAX_CALLS, [14, 0, 0, 0]);
+    calls
+}
+
 /// One more block and variable than there can be: the last of each is refused.
 fn declared(blocks: usize, vars: usize) -> Vec<Call> {
     let mut calls: Vec<Call> = (0..blocks as u32 + 1).map(|b| [1, b, 0, 0]).collect();
@@ -102,12 +122,19 @@ fn waiting_results(rng: &mut Rng) -> Vec<Call> {
     calls
 }
 
+/// The longest chain that there can be, or a short one, or one that another order of seals breaks up.
+fn alias_chain(rng: &mut Rng) -> Vec<Call> {
+    match rng.below(4) {
+        0 => one_chain(rng.within(2, 20), rng.within(1, 20), |_| {}),
+        1 => one_chain(rng.within(2, 20), rng.within(1, 20), |seals| rng.shuffle(seals)),
+        _ => one_chain(BLOCKS as u32, VARIABLES as u32, |_| {}),
+    }
+}
+
 /// A line of blocks, all parameters of which become one chain. In each block every variable is used, the last first; then the block before is told
 /// that variable k is what k - 1 was there, and variable 0 what the last one is one block earlier. Sealed from the end of the line, each parameter
 /// becomes an alias of the next before that is one itself.
-fn alias_chain(rng: &mut Rng) -> Vec<Call> {
-    let small = rng.chance(1, 2);
-    let (blocks, vars) = if small { (rng.within(2, 20), rng.within(1, 20)) } else { (BLOCKS as u32, VARIABLES as u32) };
+fn one_chain(blocks: u32, vars: u32, order: impl FnOnce(&mut [u32])) -> Vec<Call> {
     let mut calls = declared(blocks as usize - 1, vars as usize - 1);
     for b in 0..blocks - 1 {
         calls.extend([[7, b, 0, 0], [8, b, b + 1, 0], [9, b + 1, b, 0]]);
@@ -122,9 +149,7 @@ fn alias_chain(rng: &mut Rng) -> Vec<Call> {
         calls.extend((1..vars).map(|v| [5, v, answer(b, v - 1), b - 1]));
     }
     let mut seals: Vec<u32> = (0..blocks).rev().collect();
-    if small && rng.chance(1, 2) {
-        rng.shuffle(&mut seals);
-    }
+    order(&mut seals);
     calls.extend(seals.iter().map(|&b| [11, b, 0, 0]));
     calls
 }

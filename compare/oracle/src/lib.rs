@@ -4,6 +4,7 @@ extern crate alloc;
 // the oracle's modules, and under the names that they expect at the crate's root: `Variable`, `hook`, `no12`, `big`
 include!(concat!(env!("OUT_DIR"), "/given.rs"));
 pub mod hook;
+pub use cranelift_codegen;
 pub use variable::Variable;
 
 use std::cell::Cell;

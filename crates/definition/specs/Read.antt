@@ -1,5 +1,5 @@
 -- Reading and writing a variable, settling a parameter: Braun and others, algorithms 1 to 4.
--- P1 to P6 mark where the crate departs from the paper; docs/DIFFERENCES.md has them with their reasons. Assumes nothing.
+-- P1 to P7 mark where the crate departs from the paper; docs/DIFFERENCES.md has them with their reasons. Assumes nothing.
 use Prim.Native.Nat.{ℕ, zero, suc, _+_}
 use mathlib.Core.Bool.{Bool, true, false, _&&_}
 use mathlib.Core.Option.{Option, none, some}

@@ -63,7 +63,7 @@ declared-anywhere g p = any (λ b. has p (g .preds b)) (upFrom 0 (g .blocks))
 abbrev pub mark-sealed : Graph → Block → Graph
 mark-sealed g b = with-sealed g (put b true (g .sealed))
 
--- sealBlock: b is marked first, then what waits there is settled
+-- sealBlock. P7: the paper marks b last; here it is marked first, then what waits there is settled.
 abbrev pub seal-form : Graph → Form → Block → Form
 seal-form g s b = settle-pending (mark-sealed g b) b (s .pending b) (set-pending b [] s)
 

@@ -1,5 +1,3 @@
-pub mod Logs
-pub mod Calls
 pub mod Told
 pub mod Turns
 pub mod Runs

@@ -15,7 +15,8 @@ use Rattle.layout.specs.Cells.{Holds}
 use Rattle.layout.specs.Layout.{work-sizes, work-tables}
 use Rattle.kinds.specs.declared.Reply.{Reply}
 use Rattle.kinds.specs.Replies.{Leaves}
-use Rattle.session.specs.Turns.{Replied, Told, Turned, Lined, next-call, call-at}
+use Rattle.calls.specs.Calls.{Replied}
+use Rattle.session.specs.Turns.{Told, Turned, Lined, next-call, call-at}
 use Rattle.session.proofs.Told.{told-more}
 
 -- the state after t with this graph and form, where the call is counted and has its answer

@@ -2,12 +2,12 @@
 -- Assumes nothing.
 use Rattle.definition.specs.Session.{seal-each}
 use Rattle.definition.specs.Base.{upFrom}
-use Rattle.session.proofs.Logs.{each-more}
-use Rattle.session.proofs.Calls.{at-rest, cells-of, taken-on, difference}
+use Rattle.calls.proofs.Logs.{each-more}
+use Rattle.calls.proofs.Calls.{at-rest, cells-of, taken-on, difference}
 use borrow.Author.Needs.{needs}
 use native.Mathlib.Omega.{arith}
-use Rattle.session.proofs.seal_all_blocks.Statement.{statement}
-use Rattle.session.proofs.seal_all_blocks.Tie as tie
+use Rattle.calls.proofs.seal_all_blocks.Statement.{statement}
+use Rattle.calls.proofs.seal_all_blocks.Tie as tie
 
 seal-all-blocks-requires : tie.Need-seal-all-blocks-requires
 seal-all-blocks-requires c κs = (_, _, at-rest (c .before .before .before .before .before .before .before .before .pre .1))

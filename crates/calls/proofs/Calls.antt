@@ -21,7 +21,7 @@ use Rattle.kinds.specs.Replies.{Some-state, refusal, acceptance}
 use Rattle.kinds.proofs.Asked.{seen}
 use Rattle.kinds.proofs.Answered.{tested, refused, accepted}
 use Rattle.ssa.specs.Use.{At-rest, Can-read, Can-seal}
-use Rattle.session.specs.Turns.{State-with, Between, Replied}
+use Rattle.calls.specs.Calls.{State-with, Between, Replied}
 
 -- a number that is not past the count names something that is there
 pub named : {n b : ℕ} {z : Bool} → z ≡ leb n b → z ≡ false → b < n

@@ -1,10 +1,10 @@
 -- `use_var` meets its contract: the checks are the definition's, and the value is its `read`.
 -- Assumes nothing.
 use Rattle.kinds.proofs.Answered.{tested}
-use Rattle.session.proofs.Calls.{named, seen-of, seen-some, read-can, turned-down, taken-on}
+use Rattle.calls.proofs.Calls.{named, seen-of, seen-some, read-can, turned-down, taken-on}
 use borrow.Author.Needs.{needs}
-use Rattle.session.proofs.use_var.Statement.{statement}
-use Rattle.session.proofs.use_var.Tie as tie
+use Rattle.calls.proofs.use_var.Statement.{statement}
+use Rattle.calls.proofs.use_var.Tie as tie
 
 no-var-requires : tie.Need-no-var-requires
 no-var-requires c κs = seen-some (c .before .before .before .pre)

@@ -1,10 +1,10 @@
 -- `one_call` meets its contract: each kind's function answers the definition's reply of that kind; any other kind is refused.
 -- Assumes nothing.
-use Rattle.session.proofs.Calls.{ready, unknown, turned-down}
+use Rattle.calls.proofs.Calls.{ready, unknown, turned-down}
 use Rattle.definition.specs.Session.{answered}
 use borrow.Author.Needs.{needs}
-use Rattle.session.proofs.one_call.Statement.{statement}
-use Rattle.session.proofs.one_call.Tie as tie
+use Rattle.calls.proofs.one_call.Statement.{statement}
+use Rattle.calls.proofs.one_call.Tie as tie
 
 declare-block-requires : tie.Need-declare-block-requires
 declare-block-requires c κs = ready (c .before .before .before .before .before .before .pre)

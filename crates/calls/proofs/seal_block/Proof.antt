@@ -2,12 +2,12 @@
 -- Assumes nothing.
 use Rattle.definition.specs.Session.{seal-form}
 use Rattle.kinds.proofs.Answered.{tested}
-use Rattle.session.proofs.Logs.{seal-more}
-use Rattle.session.proofs.Calls.{named, seen-of, seen-some, cells-of, seal-can, turned-down, taken-on, difference}
+use Rattle.calls.proofs.Logs.{seal-more}
+use Rattle.calls.proofs.Calls.{named, seen-of, seen-some, cells-of, seal-can, turned-down, taken-on, difference}
 use borrow.Author.Needs.{needs}
 use native.Mathlib.Omega.{arith}
-use Rattle.session.proofs.seal_block.Statement.{statement}
-use Rattle.session.proofs.seal_block.Tie as tie
+use Rattle.calls.proofs.seal_block.Statement.{statement}
+use Rattle.calls.proofs.seal_block.Tie as tie
 
 no-block-requires : tie.Need-no-block-requires
 no-block-requires c κs = seen-some (c .before .before .before .before .pre)

@@ -1,0 +1,177 @@
+//! Reading the tables that a session left. A number that names nothing there is [`Absent`](Refusal::Absent), so that a wrong number shows.
+use crate::refusal::answer;
+use crate::{raw, Block, Branch, Refusal, Session, Sort, Type, Value, Variable};
+use std::iter::{Copied, Map};
+use std::slice::Iter;
+
+/// The entries of a row, read where they lie.
+pub type Row<'a, T> = Map<Copied<Iter<'a, u32>>, fn(u32) -> T>;
+
+/// What is known of a value.
+#[derive(Clone, Copy, PartialEq, Eq, Debug)]
+pub struct ValueData {
+    /// The value itself.
+    pub value: Value,
+    /// Where it comes from.
+    pub sort: Sort,
+    /// Its type.
+    pub ty: Type,
+    /// Its block.
+    pub block: Block,
+    /// The value that it is an alias of: itself if it is none.
+    pub target: Value,
+}
+
+/// One destination of a branch.
+#[derive(Clone, Debug)]
+pub struct Destination<'a> {
+    /// The block that it names.
+    pub target: Block,
+    /// What it passes to that block's parameters, in their order; values as they were found, which may be aliases.
+    pub args: Row<'a, Value>,
+}
+
+/// A row is its count and then its entries. No count exceeds its row's room (`rooms-suffice`).
+fn row<T>(cells: &[u32], start: usize, read: fn(u32) -> T) -> Row<'_, T> {
+    let count = cells[start] as usize;
+    cells[start + 1..][..count].iter().copied().map(read)
+}
+
+fn within(number: u32, count: u32) -> Result<usize, Refusal> {
+    if number < count {
+        Ok(number as usize)
+    } else {
+        Err(Refusal::Absent)
+    }
+}
+
+fn stored_type(number: u32) -> Type {
+    Type::from_number(number).expect("proved: a stored type is one of the six (numbers-named)")
+}
+
+impl Session {
+    /// The cells of the graph, as docs/LAYOUT.md has them.
+    pub fn graph(&self) -> &[u32] {
+        &self.graph
+    }
+
+    /// The cells of the form, as docs/LAYOUT.md has them.
+    pub fn form(&self) -> &[u32] {
+        &self.form
+    }
+
+    fn block(&self, block: Block) -> Result<usize, Refusal> {
+        within(block.0, self.block_count())
+    }
+
+    fn variable(&self, variable: Variable) -> Result<usize, Refusal> {
+        within(variable.0, self.variable_count())
+    }
+
+    /// How many blocks are declared.
+    pub fn block_count(&self) -> u32 {
+        self.graph[raw::BLOCK_COUNT]
+    }
+
+    /// How many variables are declared.
+    pub fn variable_count(&self) -> u32 {
+        self.graph[raw::TYPES]
+    }
+
+    /// How many values there are, of every sort.
+    pub fn value_count(&self) -> u32 {
+        self.form[raw::VALUE_COUNT]
+    }
+
+    /// How many of them the caller made.
+    pub fn made_count(&self) -> u32 {
+        self.form[raw::MADE_COUNT]
+    }
+
+    /// A variable's type.
+    pub fn type_of(&self, variable: Variable) -> Result<Type, Refusal> {
+        let place = self.variable(variable)?;
+        Ok(stored_type(self.graph[raw::TYPES + 1 + place]))
+    }
+
+    /// Is the block sealed?
+    pub fn is_sealed(&self, block: Block) -> Result<bool, Refusal> {
+        Ok(self.graph[raw::SEALED + self.block(block)?] != 0)
+    }
+
+    /// The block's branch, if it has one.
+    pub fn branch(&self, block: Block) -> Result<Option<Branch>, Refusal> {
+        let marked = self.graph[raw::BRANCHES + self.block(block)?] != 0;
+        Ok(marked.then_some(Branch(block.0)))
+    }
+
+    /// The branch's destinations, each with its arguments.
+    pub fn destinations(&self, branch: Branch) -> Result<impl ExactSizeIterator<Item = Destination<'_>>, Refusal> {
+        let block = Block(branch.0);
+        self.branch(block)?.ok_or(Refusal::Absent)?;
+        let place = self.block(block)?;
+        let targets = row(&self.graph, raw::DEST_ROWS + place * raw::DEST_ROW, Block);
+        let args = move |dest| row(&self.form, raw::ARG_ROWS + (place * raw::DESTS + dest) * raw::PARAM_ROW, Value);
+        Ok(targets.enumerate().map(move |(dest, target)| Destination { target, args: args(dest) }))
+    }
+
+    /// The branches declared to the block, in the order in which they are read.
+    pub fn predecessors(&self, block: Block) -> Result<Row<'_, Branch>, Refusal> {
+        Ok(row(&self.graph, raw::PRED_ROWS + self.block(block)? * raw::PRED_ROW, Branch))
+    }
+
+    /// The block's parameters, in order.
+    pub fn params(&self, block: Block) -> Result<Row<'_, Value>, Refusal> {
+        Ok(row(&self.form, raw::PARAM_ROWS + self.block(block)? * raw::PARAM_ROW, Value))
+    }
+
+    /// The variables that wait for the block to be sealed. Their parameters are the last of the block's, in the same order.
+    pub fn pending(&self, block: Block) -> Result<Row<'_, Variable>, Refusal> {
+        Ok(row(&self.form, raw::PENDING_ROWS + self.block(block)? * raw::PARAM_ROW, Variable))
+    }
+
+    /// The value recorded last for the variable in the block, if there is one. It may be an alias.
+    pub fn def(&self, variable: Variable, block: Block) -> Result<Option<Value>, Refusal> {
+        let cell = self.form[raw::DEFS + self.variable(variable)? * raw::BLOCKS + self.block(block)?];
+        Ok(cell.checked_sub(1).map(Value))
+    }
+
+    /// What is known of a value.
+    pub fn value(&self, value: Value) -> Result<ValueData, Refusal> {
+        within(value.0, self.value_count()).map(|place| self.data(place))
+    }
+
+    /// All values, by number.
+    pub fn values(&self) -> impl ExactSizeIterator<Item = ValueData> + '_ {
+        (0..self.value_count() as usize).map(|place| self.data(place))
+    }
+
+    fn data(&self, place: usize) -> ValueData {
+        let cell = |table: usize| self.form[table + place];
+        ValueData {
+            value: Value(place as u32),
+            sort: Sort::from_number(cell(raw::SORT)).expect("proved: the tables show a sort as 0, 1 or 2"),
+            ty: stored_type(cell(raw::TYPE)),
+            block: Block(cell(raw::BLOCK)),
+            target: Value(cell(raw::TARGET)),
+        }
+    }
+
+    /// The value that this one stands for: itself if it is no alias.
+    pub fn resolve(&self, value: Value) -> Result<Value, Refusal> {
+        let targets = &self.form[raw::TARGET..][..self.value_count() as usize];
+        let (code, number) = raw::resolve(targets, value.0);
+        answer(code, number).map(Value)
+    }
+
+    /// For each zero, in order: the place of the call that added it, and its block.
+    pub fn zero_log(&self) -> impl ExactSizeIterator<Item = (usize, Block)> + '_ {
+        let places: Row<'_, usize> = row(&self.form, raw::ZERO_CALLS, |place| place as usize);
+        places.zip(row(&self.form, raw::ZERO_BLOCKS, Block as fn(u32) -> Block))
+    }
+
+    /// The blocks in the order in which they were placed.
+    pub fn placed(&self) -> Row<'_, Block> {
+        row(&self.form, raw::PLACED, Block)
+    }
+}

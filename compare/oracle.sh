@@ -1,0 +1,34 @@
+# Sourced by compare/run and bench/run, which set `here` to their own folder.
+# Reads --oracle DIR and --built DIR off the command line, and finds or makes the two sides: the static library and the oracle.
+#   --oracle DIR   the folder with the oracle's setup.sh, which is built once, into compare/target/oracle;
+#                  default: ../shared/oracle, seen from the repository's root
+#   --built DIR    a folder that setup.sh has built already
+root=$(dirname "$here")
+oracle=$root/../shared/oracle
+built=$root/compare/target/oracle
+while [ $# -gt 0 ]; do
+    case $1 in
+        --oracle) oracle=$2; shift 2 ;;
+        --built) built=$(cd "$2" && pwd -P); shift 2 ;;
+        *) break ;;
+    esac
+done
+with=(--quiet --release --offline --jobs 1 --target-dir "$here/target")
+
+# What the caller says of itself, then the options above.
+usage() {
+    sed -n '2,/^[^#]/s/^# //p' "$0"
+    sed -n 's/^# \(  .*\)/\1/p' "${BASH_SOURCE[0]}"
+}
+
+need_library() {
+    [ -f "${SANGVIREB_LIB:-$root/target/staticlib}/libexports.a" ] || (cd "$root" && rt staticlib exports)
+}
+
+need_oracle() {
+    [ -x "$built/target/release/oracle-driver" ] || "$oracle/setup.sh" "$built"
+    local crates=$built/reg/usr/share/cargo/registry
+    with+=(--config 'source.crates-io.replace-with="unpacked"' --config "source.unpacked.directory=\"$crates\"")
+    with+=(--manifest-path "$here/Cargo.toml")
+    export ORACLE_BUILT=$built
+}
