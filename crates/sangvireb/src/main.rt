@@ -8,10 +8,6 @@ use libc::STDERR_FILENO;
 use libc::STDIN_FILENO;
 use line::Line;
 
-mod dump;
-mod line;
-mod out;
-
 // Where the reading of a list stands.
 struct State {
     line: Line,
@@ -317,5 +313,5 @@ fn main() {
         stopped: false,
     };
     let t = read_all(&mut out, &mut calls, s);
-    out::flush(&out, t.waiting);
+    dump::out::flush(&out, t.waiting);
 }
