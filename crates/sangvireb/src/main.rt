@@ -8,10 +8,6 @@ use libc::STDERR_FILENO;
 use libc::STDIN_FILENO;
 use line::Line;
 
-mod dump;
-mod line;
-mod out;
-
 // Where the reading of a list stands.
 struct State {
     line: Line,
@@ -83,6 +79,43 @@ fn put(t: &mut [u32], i: usize, x: u32) {
     }
 }
 
+// Runs the session of k calls. Was it run?
+fn ran(
+    calls: &[u32],
+    k: usize,
+    codes: &mut [u32],
+    numbers: &mut [u32],
+    graph: &mut [u32],
+    form: &mut [u32],
+    work: &mut [u32],
+) -> bool {
+    if CALLS < k {
+        return false;
+    }
+    if calls.len() < CALLS * 4 {
+        return false;
+    }
+    let kind: usize = 0;
+    let x = CALLS;
+    let y = CALLS * 2;
+    let z = CALLS * 3;
+    let xe = x + k;
+    let ye = y + k;
+    let ze = z + k;
+    session::session(
+        &calls[kind..k],
+        &calls[x..xe],
+        &calls[y..ye],
+        &calls[z..ze],
+        codes,
+        numbers,
+        graph,
+        form,
+        work,
+    )
+        == 0
+}
+
 // Runs the session of k calls and prints what it leaves.
 fn run(
     out: &mut [u8],
@@ -95,34 +128,10 @@ fn run(
     form: &mut [u32],
     work: &mut [u32],
 ) -> usize {
-    if CALLS < k {
-        return dump::refused(out, n);
+    if ran(calls, k, codes, numbers, graph, form, work) {
+        return dump::dump(out, n, k, codes, numbers, graph, form);
     }
-    if calls.len() < CALLS * 4 {
-        return dump::refused(out, n);
-    }
-    let kind: usize = 0;
-    let x = CALLS;
-    let y = CALLS * 2;
-    let z = CALLS * 3;
-    let xe = x + k;
-    let ye = y + k;
-    let ze = z + k;
-    let s = session::session(
-        &calls[kind..k],
-        &calls[x..xe],
-        &calls[y..ye],
-        &calls[z..ze],
-        codes,
-        numbers,
-        graph,
-        form,
-        work,
-    );
-    if s != 0 {
-        return dump::refused(out, n);
-    }
-    dump::dump(out, n, k, codes, numbers, graph, form)
+    dump::refused(out, n)
 }
 
 // A list is whole: lends cells for it. A session starts empty whatever they hold.
@@ -317,5 +326,5 @@ fn main() {
         stopped: false,
     };
     let t = read_all(&mut out, &mut calls, s);
-    out::flush(&out, t.waiting);
+    dump::out::flush(&out, t.waiting);
 }

@@ -5,6 +5,8 @@ use crate::out::end_line;
 use crate::out::end_list;
 use crate::out::number;
 
+pub mod out;
+
 const BLOCKS: usize = entity::BLOCKS as usize;
 
 const VARIABLES: usize = entity::VARIABLES as usize;

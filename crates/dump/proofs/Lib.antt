@@ -1,0 +1,2 @@
+-- The law that the proofs share. Assumes nothing.
+pub mod Parts

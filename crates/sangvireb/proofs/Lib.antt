@@ -1,2 +1,0 @@
--- The laws that the proofs of the program share. Assumes nothing.
-pub mod Parts
