@@ -16,10 +16,10 @@ use Rattle.layout.proofs.Cells.{below?}
 use Rattle.layout.specs.declared.Counts.{Counts}
 use Rattle.graph.specs.Seen.{Graph-with, Seen}
 use Rattle.form.specs.Can.{Ex, Cells}
-use Rattle.kinds.specs.declared.Reply.{Reply}
-use Rattle.kinds.specs.Replies.{Some-state, refusal, acceptance}
-use Rattle.kinds.proofs.Asked.{seen}
-use Rattle.kinds.proofs.Answered.{tested, refused, accepted}
+use Rattle.reply.specs.declared.Reply.{Reply}
+use Rattle.reply.specs.Replies.{Some-state, refusal, acceptance}
+use Rattle.reply.proofs.Asked.{seen}
+use Rattle.reply.proofs.Answered.{tested, refused, accepted}
 use Rattle.ssa.specs.Use.{At-rest, Can-read, Can-seal}
 use Rattle.calls.specs.Calls.{State-with, Between, Replied}
 

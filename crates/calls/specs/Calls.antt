@@ -7,8 +7,8 @@ use Rattle.definition.specs.Session.{State, Reply as Defined}
 use Rattle.layout.specs.declared.Counts.{Counts}
 use Rattle.layout.specs.Cells.{Holds}
 use Rattle.layout.specs.Layout.{work-sizes, work-tables}
-use Rattle.kinds.specs.declared.Reply.{Reply}
-use Rattle.kinds.specs.Replies.{Showing, Replies}
+use Rattle.reply.specs.declared.Reply.{Reply}
+use Rattle.reply.specs.Replies.{Showing, Replies}
 
 -- there is a state such that
 abbrev pub State-with : (State → Type 0) → Type 0

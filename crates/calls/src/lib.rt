@@ -5,8 +5,8 @@ ghost use Rattle.definition.specs.Tables.{plus-one};
 ghost use Rattle.calls.specs.Calls.{State-with, Between, Answers, Replied};
 use entity::Block;
 use entity::Variable;
-use kinds::Reply;
 use layout::Counts;
+use reply::Reply;
 
 // The code of a kind that is not there.
 const UNKNOWN: u32 = 3;
@@ -17,16 +17,16 @@ fn use_var(graph: &[u32], form: &mut [u32], work: &mut [u32], c: Counts, x: u32,
     ensures { λ r. ⌜ Answers (now (graph .entry)) (now (form .entry)) (now (work .entry)) (now (graph .entry)) (now (form .exit)) (now (work .exit)) c r
         (λ g s. use-var g s x y) ⌝ }
 {
-    if kinds::no_var(graph, x) {
-        return kinds::refuse(kinds::ABSENT, c);
+    if reply::no_var(graph, x) {
+        return reply::refuse(reply::ABSENT, c);
     }
-    if kinds::no_block(graph, y) {
-        return kinds::refuse(kinds::ABSENT, c);
+    if reply::no_block(graph, y) {
+        return reply::refuse(reply::ABSENT, c);
     }
     let f = ssa::use_var(graph, form, work, c, Variable(x), Block(y));
     let val = f.0;
     let d = f.1;
-    kinds::accept(val.0, d)
+    reply::accept(val.0, d)
 }
 
 // Kind 11. The answer counts the zeros that the log has more.
@@ -35,16 +35,16 @@ fn seal_block(graph: &mut [u32], form: &mut [u32], work: &mut [u32], c: Counts, 
     ensures { λ r. ⌜ Answers (now (graph .entry)) (now (form .entry)) (now (work .entry)) (now (graph .exit)) (now (form .exit)) (now (work .exit)) c r
         (λ g s. seal g s x) ⌝ }
 {
-    if kinds::no_block(graph, x) {
-        return kinds::refuse(kinds::ABSENT, c);
+    if reply::no_block(graph, x) {
+        return reply::refuse(reply::ABSENT, c);
     }
     if graph::is_sealed(graph, Block(x)) {
-        return kinds::refuse(kinds::SEALED, c);
+        return reply::refuse(reply::SEALED, c);
     }
     let n = form::zero_count(form);
     let d = ssa::seal_one_block(graph, form, work, c, Block(x));
     let m = form::zero_count(form);
-    kinds::accept(m - n, d)
+    reply::accept(m - n, d)
 }
 
 // Kind 12.
@@ -56,7 +56,7 @@ fn seal_all_blocks(graph: &mut [u32], form: &mut [u32], work: &mut [u32], c: Cou
     let before = form::zero_count(form);
     let d = ssa::seal_all_blocks(graph, form, work, c);
     let after = form::zero_count(form);
-    kinds::accept(after - before, d)
+    reply::accept(after - before, d)
 }
 
 // One call: each kind has its function. w is what the use at place y answered, plus one; 0 for none.
@@ -76,20 +76,20 @@ pub fn one_call(
         → Replied (now (graph .exit)) (now (form .exit)) (now (work .exit)) r (t .graph) (t .form) (reply (t .graph) (t .form) (t .done) x y z kind)) ⌝ }
 {
     match kind {
-        1 => return kinds::declare_block(graph, form, c, x),
-        2 => return kinds::declare_var(graph, c, x, y),
-        3 => return kinds::make_value(graph, form, c, x, y),
-        4 => return kinds::define(graph, form, c, x, y, z),
-        5 => return kinds::define_answer(graph, form, c, x, z, w),
+        1 => return declare::declare_block(graph, form, c, x),
+        2 => return declare::declare_var(graph, c, x, y),
+        3 => return declare::make_value(graph, form, c, x, y),
+        4 => return declare::define(graph, form, c, x, y, z),
+        5 => return declare::define_answer(graph, form, c, x, z, w),
         6 => return use_var(graph, form, work, c, x, y),
-        7 => return kinds::new_branch(graph, form, c, x),
-        8 => return kinds::new_dest(graph, c, x, y),
-        9 => return kinds::add_pred(graph, c, x, y),
-        10 => return kinds::drop_pred(graph, c, x, y),
+        7 => return declare::new_branch(graph, form, c, x),
+        8 => return connect::new_dest(graph, c, x, y),
+        9 => return connect::add_pred(graph, c, x, y),
+        10 => return connect::drop_pred(graph, c, x, y),
         11 => return seal_block(graph, form, work, c, x),
         12 => return seal_all_blocks(graph, form, work, c),
-        13 => return kinds::has_any_predecessors(graph, c, x),
-        14 => return kinds::is_sealed(graph, c, x),
-        _ => return kinds::refuse(UNKNOWN, c),
+        13 => return connect::has_any_predecessors(graph, c, x),
+        14 => return connect::is_sealed(graph, c, x),
+        _ => return reply::refuse(UNKNOWN, c),
     }
 }

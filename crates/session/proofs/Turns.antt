@@ -13,8 +13,8 @@ use Rattle.meaning.proofs.Sure.{Sure, step-sure}
 use Rattle.layout.specs.declared.Counts.{Counts}
 use Rattle.layout.specs.Cells.{Holds}
 use Rattle.layout.specs.Layout.{work-sizes, work-tables}
-use Rattle.kinds.specs.declared.Reply.{Reply}
-use Rattle.kinds.specs.Replies.{Leaves}
+use Rattle.reply.specs.declared.Reply.{Reply}
+use Rattle.reply.specs.Replies.{Leaves}
 use Rattle.calls.specs.Calls.{Replied}
 use Rattle.session.specs.Turns.{Told, Turned, Lined, next-call, call-at}
 use Rattle.session.proofs.Told.{told-more}

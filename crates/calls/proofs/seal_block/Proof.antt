@@ -1,7 +1,7 @@
 -- `seal_block` meets its contract: the checks are the definition's; the log only grows, so the difference of its lengths counts the zeros added.
 -- Assumes nothing.
 use Rattle.definition.specs.Session.{seal-form}
-use Rattle.kinds.proofs.Answered.{tested}
+use Rattle.reply.proofs.Answered.{tested}
 use Rattle.calls.proofs.Logs.{seal-more}
 use Rattle.calls.proofs.Calls.{named, seen-of, seen-some, cells-of, seal-can, turned-down, taken-on, difference}
 use borrow.Author.Needs.{needs}

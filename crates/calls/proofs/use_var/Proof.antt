@@ -1,6 +1,6 @@
 -- `use_var` meets its contract: the checks are the definition's, and the value is its `read`.
 -- Assumes nothing.
-use Rattle.kinds.proofs.Answered.{tested}
+use Rattle.reply.proofs.Answered.{tested}
 use Rattle.calls.proofs.Calls.{named, seen-of, seen-some, read-can, turned-down, taken-on}
 use borrow.Author.Needs.{needs}
 use Rattle.calls.proofs.use_var.Statement.{statement}

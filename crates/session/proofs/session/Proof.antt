@@ -1,7 +1,7 @@
 -- `session` meets its contract: the two tests are the definition's, and the first cells of each list are lent on to the run.
 -- Assumes nothing.
 use mathlib.Core.Path.{sym}
-use Rattle.kinds.proofs.Answered.{tested}
+use Rattle.reply.proofs.Answered.{tested}
 use Rattle.session.specs.Ends.{lent}
 use Rattle.session.proofs.Fits.{Fits, all-unfit, some-short, fits, back, lined, exact, all-done}
 use Rattle.session.proofs.unfit.Reads as unfit-reads

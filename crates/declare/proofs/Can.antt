@@ -1,0 +1,64 @@
+-- What the functions over the form ask follows of each state that the cells show: every session keeps to the limits, and places a block once.
+-- Assumes nothing.
+use Prim.Native.Nat.{ℕ, suc, _<_}
+use mathlib.Core.Path.{_≡_, refl}
+use mathlib.Core.Logic.{inl, inr}
+use mathlib.Core.Option.{some}
+use mathlib.Core.Bool.{false}
+use mathlib.Core.List.{List, _∷_}
+use lib.ListN.{length}
+use native.Mathlib.Omega.{arith}
+use native.Mathlib.Nat.{le-trans}
+use Rattle.entity.specs.Limits.{limits, value-room}
+use Rattle.definition.specs.Base.{has}
+use Rattle.definition.specs.Form.{Form, with-makes}
+use Rattle.definition.specs.Read.{place-block}
+use Rattle.definition.specs.Session.{State}
+use Rattle.meaning.specs.Path.{In}
+use Rattle.meaning.specs.Rooms.{Rooms}
+use Rattle.meaning.proofs.Maps.{false-true}
+use Rattle.meaning.proofs.Lists.{has-in}
+use Rattle.meaning.proofs.Sums.{pigeon}
+use Rattle.meaning.proofs.Steady.{steady-of, steady-rooms}
+use Rattle.meaning.proofs.Port.{make-room}
+use Rattle.layout.specs.declared.Counts.{Counts}
+use Rattle.form.specs.Can.{Cells, Can-make, Can-count, Has-value, Has-def, Can-place}
+use Rattle.reply.specs.Replies.{Showing}
+use Rattle.reply.proofs.Asked.{cells}
+
+module _ {gl fl : List ℕ} {c : Counts} {t : State} (h : Showing gl fl c t) where
+  rooms : Rooms (t .graph) (t .form)
+  rooms = steady-rooms (t .graph) (t .form) (steady-of t (h .sure))
+
+  pub has-value : (x : ℕ) → x < t .form .next → Has-value fl x (t .form)
+  has-value x l = record { cells = cells h; there = l; room = rooms .values }
+
+  pub value-small : (x : ℕ) → x < t .form .next → x < value-room limits
+  value-small x l = le-trans l (rooms .values)
+
+  pub has-def : (v b : ℕ) → v < limits .variables → b < limits .blocks → Has-def fl v b (t .form)
+  has-def v b lv lb = record { cells = cells h; var = lv; known = lb }
+
+  -- a block that is not placed yet is one more than those that are
+  unplaced : (b : ℕ) → b < limits .blocks → has b (t .form .placed) ≡ false → length (t .form .placed) < limits .blocks
+  unplaced b lb e = pigeon some (limits .blocks) (b ∷ t .form .placed) ((λ i. false-true e (has-in b (t .form .placed) i)), h .sure .safe .ranged .logs .once) low
+    where
+      low : (d : ℕ) → In d (b ∷ t .form .placed) → (w : ℕ) × (w < limits .blocks) × (some w ≡ some d)
+      low d (inl q) = (d, omega (arith, lb, q), refl)
+      low d (inr i) = (d, le-trans (h .sure .safe .ranged .logs .within d i) (h .sure .safe .bounds .few), refl)
+
+  -- placing asks of a form only which blocks are placed
+  pub can-place : {lent : List ℕ} (s : Form) → s .placed ≡ t .form .placed → Cells lent s → (b : ℕ) → b < limits .blocks → Can-place lent b s
+  can-place s e shown b lb = record { placed = record { cells = shown; few = rw e (rooms .placed) }; row = rw e (unplaced b lb) }
+
+  module _ (room : t .form .makes < limits .made) where
+    pub can-count : Can-count fl (t .form)
+    can-count = record { cells = cells h; room = room }
+
+    -- after it is counted and its block placed, a made value is as new as before
+    pub can-make : {lent : List ℕ} (b : ℕ) → Cells lent (place-block b (with-makes (t .form) (suc (t .form .makes)))) → Can-make lent c (place-block b (with-makes (t .form) (suc (t .form .makes))))
+    can-make b shown = record {
+      shows = record { cells = shown; next = h .leaves .form .next };
+      room = make-room t (h .sure) room;
+      fresh = h .sure .whole .inv .aliased .fresh (t .form .next) (omega arith);
+    }
