@@ -1,6 +1,7 @@
 // What C and Rust link: the public calls under names of their own.
 ghost use Rattle.definition.specs.Resolve.{Resolved};
-ghost use Rattle.session.specs.Ends.{Ended, lent};
+ghost use Rattle.turns.specs.Turns.{lent};
+ghost use Rattle.session.specs.Ends.{Ended};
 use entity::Value;
 
 // Code and number of a resolved alias, as C sees them.

@@ -13,7 +13,8 @@ use Rattle.layout.specs.Outcome.{Lent, lengths, outcome, shown, first, past}
 use Rattle.layout.specs.Same.{Same-graph, Same-form}
 use Rattle.layout.proofs.Outcome.{outcome-answer, outcome-refused, outcome-past, outcome-first}
 use Rattle.layout.proofs.Same.{same-sessions}
-use Rattle.session.specs.Ends.{lent, Same-lists, Ended}
+use Rattle.turns.specs.Turns.{lent, Same-lists}
+use Rattle.session.specs.Ends.{Ended}
 
 same-lent : (t u : Lent) → Same-lists t u → t ≡ u
 same-lent t u h =

@@ -14,8 +14,8 @@ use Rattle.definition.specs.Session.{session}
 use Rattle.definition.specs.Whole.{calls, needs, short, unfit}
 use Rattle.meaning.proofs.Maps.{eqb-eq, ltb-no, or-no, and-both, not-no}
 use Rattle.layout.specs.Outcome.{Lent, lengths, outcome, shown, past, followed-by}
-use Rattle.session.specs.Turns.{Lined}
-use Rattle.session.specs.Ends.{Exact, Same-lists, Ended}
+use Rattle.turns.specs.Turns.{Lined, Exact, Same-lists}
+use Rattle.session.specs.Ends.{Ended}
 
 module _ (ks xs ys zs : List ℕ) (t : Lent) where
   -- the outcome, by the two tests

@@ -2,11 +2,11 @@
 -- Assumes nothing.
 use mathlib.Core.Path.{sym}
 use Rattle.reply.proofs.Answered.{tested}
-use Rattle.session.specs.Ends.{lent}
+use Rattle.turns.specs.Turns.{lent}
 use Rattle.session.proofs.Fits.{Fits, all-unfit, some-short, fits, back, lined, exact, all-done}
 use Rattle.session.proofs.unfit.Reads as unfit-reads
 use Rattle.session.proofs.short.Reads as short-reads
-use Rattle.session.proofs.run.Reads as run-reads
+use Rattle.turns.proofs.run.Reads as run-reads
 use Rattle.session.proofs.session.Reads as reads
 use Rattle.session.proofs.session.Lts as lts
 use Rattle.session.proofs.session.Statement.{statement}

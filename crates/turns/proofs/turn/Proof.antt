@@ -1,10 +1,10 @@
 -- `turn` meets its contract: the call's answer is the definition's reply, and it is written where it is told.
 -- Assumes nothing.
-use Rattle.session.proofs.Turns.{call-small, turned-next}
+use Rattle.turns.proofs.Turns.{call-small, turned-next}
 use borrow.Author.Needs.{needs}
 use native.Mathlib.Omega.{arith}
-use Rattle.session.proofs.turn.Statement.{statement}
-use Rattle.session.proofs.turn.Tie as tie
+use Rattle.turns.proofs.turn.Statement.{statement}
+use Rattle.turns.proofs.turn.Tie as tie
 
 answered-requires : tie.Need-answered-requires
 answered-requires c κs =

@@ -1,10 +1,10 @@
 -- `answered` meets its contract: the three lists hold what was done before place i, so the use at place y is read off them; its answer is a value, so one more fits.
 -- Assumes nothing.
-use Rattle.session.proofs.Told.{not-yet, no-use, refused-use, the-use, its-answer, answer-small}
+use Rattle.turns.proofs.Told.{not-yet, no-use, refused-use, the-use, its-answer, answer-small}
 use borrow.Author.Needs.{needs}
 use native.Mathlib.Omega.{arith}
-use Rattle.session.proofs.answered.Statement.{statement}
-use Rattle.session.proofs.answered.Tie as tie
+use Rattle.turns.proofs.answered.Statement.{statement}
+use Rattle.turns.proofs.answered.Tie as tie
 
 returns : tie.Need-returns
 returns c = λ t h e. not-yet (t .done) e (c .if1 .taken)

@@ -22,8 +22,7 @@ use Rattle.layout.specs.Outcome.{shown}
 use Rattle.layout.proofs.Cells.{render-length, render-held, holds-render}
 use Rattle.layout.proofs.Outcome.{calls-length}
 use Rattle.clear.specs.Cleared.{Long, Cleared}
-use Rattle.session.specs.Turns.{Turned, Lined, call-at}
-use Rattle.session.specs.Ends.{lent, Exact, Same-lists}
+use Rattle.turns.specs.Turns.{Turned, Lined, call-at, lent, Exact, Same-lists}
 
 -- ---- the calls
 

@@ -17,7 +17,7 @@ use Rattle.definition.specs.Session.{Done, State, answered}
 use Rattle.definition.specs.Tables.{plus-one}
 use Rattle.meaning.proofs.Sure.{Sure}
 use Rattle.meaning.proofs.Steady.{steady-of, steady-rooms}
-use Rattle.session.specs.Turns.{Told}
+use Rattle.turns.specs.Turns.{Told}
 
 abbrev kind-of : Done → ℕ
 kind-of d = d .asked .kind

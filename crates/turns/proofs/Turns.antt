@@ -16,8 +16,8 @@ use Rattle.layout.specs.Layout.{work-sizes, work-tables}
 use Rattle.reply.specs.declared.Reply.{Reply}
 use Rattle.reply.specs.Replies.{Leaves}
 use Rattle.calls.specs.Calls.{Replied}
-use Rattle.session.specs.Turns.{Told, Turned, Lined, next-call, call-at}
-use Rattle.session.proofs.Told.{told-more}
+use Rattle.turns.specs.Turns.{Told, Turned, Lined, next-call, call-at}
+use Rattle.turns.proofs.Told.{told-more}
 
 -- the state after t with this graph and form, where the call is counted and has its answer
 abbrev then : State → Graph → Form → Done → State

@@ -3,10 +3,10 @@
 use lib.ListN.{length}
 use Prim.Native.Nat.{_-_}
 use mathlib.Core.Path.{sym, _∙_}
-use Rattle.session.proofs.Runs.{Running, long, running-start, running-next, running-end}
+use Rattle.turns.proofs.Runs.{Running, long, running-start, running-next, running-end}
 use borrow.Author.Needs.{needs}
-use Rattle.session.proofs.run.Statement.{statement}
-use Rattle.session.proofs.run.Tie as tie
+use Rattle.turns.proofs.run.Statement.{statement}
+use Rattle.turns.proofs.run.Tie as tie
 
 abbrev Inv-loop : tie.InvT-loop
 Inv-loop kinds xs ys zs codes₀ numbers₀ graph₀ form₀ work₀ c₀ i₀ codes numbers graph form work c i = Running kinds xs ys zs codes numbers graph form work c i
