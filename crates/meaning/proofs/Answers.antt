@@ -9,7 +9,7 @@ use Rattle.definition.specs.Base.{_∷ʳ_}
 use Rattle.meaning.specs.Answers.{Answered}
 use Rattle.meaning.proofs.Steady.{calls-count}
 
-run-last : (cs : List Call) (c : Call) (t : State) → run t (cs ∷ʳ c) ≡ step (run t cs) c
+pub run-last : (cs : List Call) (c : Call) (t : State) → run t (cs ∷ʳ c) ≡ step (run t cs) c
 run-last [] c t = refl
 run-last (d ∷ cs) c t = run-last cs c (step t d)
 

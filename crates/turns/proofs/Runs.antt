@@ -10,10 +10,10 @@ use native.Mathlib.Omega.{arith}
 use lib.ListN.{length, getD, take, drop}
 use lib.Seq.{take-suc, take-all, drop-length}
 use Rattle.entity.specs.Limits.{limits, graph-need, form-need, work-need}
-use Rattle.definition.specs.Base.{_∷ʳ_}
-use Rattle.definition.specs.Session.{Call, State, step, run, empty, session}
+use Rattle.definition.specs.Session.{Call, step, empty, session}
 use Rattle.definition.specs.Whole.{calls}
 use Rattle.meaning.proofs.Sure.{empty-sure}
+use Rattle.meaning.proofs.Answers.{run-last}
 use Rattle.layout.specs.declared.Counts.{Counts}
 use Rattle.layout.specs.Counts.{counts}
 use Rattle.layout.specs.Cells.{render}
@@ -34,10 +34,6 @@ calls-at (k ∷ ks) (x ∷ xs) [] zs d i l a b c = absurd (omega (arith, b))
 calls-at (k ∷ ks) (x ∷ xs) (y ∷ ys) [] d i l a b c = absurd (omega (arith, c))
 calls-at (k ∷ ks) (x ∷ xs) (y ∷ ys) (z ∷ zs) d zero l a b c = refl
 calls-at (k ∷ ks) (x ∷ xs) (y ∷ ys) (z ∷ zs) d (suc i) l a b c = calls-at ks xs ys zs d i (le-of-suc-le-suc l) (omega arith) (omega arith) (omega arith)
-
-run-last : (cs : List Call) (c : Call) (t : State) → run t (cs ∷ʳ c) ≡ step (run t cs) c
-run-last [] c t = refl
-run-last (d ∷ cs) c t = run-last cs c (step t d)
 
 -- ---- the loop
 
