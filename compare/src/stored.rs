@@ -37,7 +37,7 @@ pub fn run(root: &Path, into: &Path, seed: u64) -> ExitCode {
     ExitCode::SUCCESS
 }
 
-/// What the oracle prints of a list. A list that is refused whole never reaches the crate: document 01 alone says what it gets.
+/// What the oracle prints of a list. A list that is refused whole never reaches the crate: docs/RULES.md alone says what it gets.
 fn told(list: &[Call]) -> String {
     let dump = if list.len() > MAX_CALLS { "S 2\n".to_string() } else { oracle::run(list).expect("it was run before").dump };
     dump + "END\n"

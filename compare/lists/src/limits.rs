@@ -1,4 +1,4 @@
-//! Lists that fill what document 01 limits: blocks, variables, destinations, made values, calls, and the rooms that follow from them.
+//! Lists that fill what docs/RULES.md limits: blocks, variables, destinations, made values, calls, and the rooms that follow from them.
 use crate::rng::Rng;
 use crate::{Call, MAX_CALLS, odd};
 use sangvireb::raw::{BLOCKS, DESTS, MADE, VARIABLES};

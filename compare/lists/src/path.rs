@@ -1,4 +1,4 @@
-//! A finished session on a path, as document 01 says under "On a path", and the suppositions of demand 3.
+//! A finished session on a path, as docs/RULES.md says under "On a path", and the suppositions of demand 3.
 //! crates/meaning/specs has both in the words of the proofs: Path.antt and Suppositions.antt.
 use crate::finished::Finished;
 

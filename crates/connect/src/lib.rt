@@ -1,4 +1,4 @@
-// The kinds of call that connect blocks, or ask about that: destinations, predecessors. Document 01's checks in its order, then the change.
+// The kinds of call that connect blocks, or ask about that: destinations, predecessors. The checks of docs/RULES.md in its order, then the change.
 ghost use mathlib.Core.List.{List};
 ghost use Prim.Native.Nat.{ℕ};
 ghost use Rattle.definition.specs.Session.{new-dest, add-pred, drop-pred, any-preds, is-sealed};

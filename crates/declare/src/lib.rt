@@ -1,4 +1,4 @@
-// The kinds of call that bring something in: blocks, variables, values, definitions, branches. Document 01's checks in its order, then the change.
+// The kinds of call that bring something in: blocks, variables, values, definitions, branches. The checks of docs/RULES.md in its order, then the change.
 ghost use mathlib.Core.Path.{_≡_};
 ghost use mathlib.Core.Option.{Option};
 ghost use mathlib.Core.List.{List};

@@ -1,4 +1,4 @@
--- The twelve starred cases of document 01 as one list with one claim: all answers and every table that each leaves. What is expected is what the
+-- The twelve starred cases of docs/RULES.md as one list with one claim: all answers and every table that each leaves. What is expected is what the
 -- crate itself answered and left. The claim is proved by computation.
 -- Assumes nothing.
 use Prim.Native.Nat.{ℕ}

@@ -1,4 +1,4 @@
--- All that a session leaves, laid open as lists: every answer, and every table of document 01.
+-- All that a session leaves, laid open as lists: every answer, and every table of docs/RULES.md.
 -- Assumes nothing.
 use Prim.Native.Nat.{ℕ, suc}
 use mathlib.Core.Bool.{Bool, true, false}
