@@ -1,13 +1,13 @@
 -- Reading and writing a variable, settling a parameter: Braun and others, algorithms 1 to 4.
 -- P1 to P8 mark where the crate departs from the paper; docs/DIFFERENCES.md has them with their reasons. Assumes nothing.
-use Prim.Native.Nat.{ℕ, zero, suc, _+_}
+use Prim.Native.Nat.{ℕ, zero, suc}
 use mathlib.Core.Bool.{Bool, true, false, _&&_}
 use mathlib.Core.Option.{Option, none, some}
-use mathlib.Core.List.{List, [], _∷_, _++_, map}
+use mathlib.Core.List.{List, [], _∷_, map}
 use lib.Dec.{eqb}
 use lib.ListN.{getD}
 use Rattle.definition.specs.Base.{Block, Variable, Value, _=?_, if_then_else_, put, put₂, _∷ʳ_, has, every, without, before}
-use Rattle.definition.specs.Form.{Graph, Form, Info, Sort, made, param, nought, def, with-next, with-info, with-target}
+use Rattle.definition.specs.Form.{Graph, Form, Sort, param, nought, def, with-next, with-info, with-target}
 use Rattle.definition.specs.Form.{with-params, with-args, with-pending, with-entry, with-own, with-zeros, with-placed}
 
 -- a change of the form, with the value that it answers

@@ -7,9 +7,9 @@ ghost use Rattle.definition.specs.Session.{State, answered, step, session};
 ghost use Rattle.definition.specs.Tables.{plus-one};
 ghost use Rattle.definition.specs.Whole.{calls};
 ghost use Rattle.meaning.proofs.Sure.{Sure};
-ghost use Rattle.layout.specs.Outcome.{shown};
+ghost use Rattle.layout.specs.Outcome.{lent, Same-lists, shown};
 ghost use Rattle.calls.specs.Calls.{State-with};
-ghost use Rattle.turns.specs.Turns.{next-call, Told, Turned, Lined, call-at, lent, Exact, Same-lists};
+ghost use Rattle.turns.specs.Turns.{next-call, Told, Turned, Lined, call-at, Exact};
 use layout::Counts;
 
 // The kind of a use, whose answer a later call of kind 5 may name.
