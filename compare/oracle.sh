@@ -22,10 +22,21 @@ usage() {
 }
 
 need_library() {
+    command -v cargo >/dev/null || { echo "cargo is not at hand, and this command is built with it" >&2; exit 2; }
     [ -f "${SANGVIREB_LIB:-$root/target/staticlib}/libexports.a" ] || (cd "$root" && rt staticlib exports)
 }
 
+# The oracle is the crate's own ssa.rs over the real cranelift, with a driver in front of it. It is not in this repository.
 need_oracle() {
+    if [ ! -x "$built/target/release/oracle-driver" ] && [ ! -x "$oracle/setup.sh" ]; then
+        cat >&2 <<TEXT
+The oracle is not at hand, and this command compares with it. It is a folder of its own with a script setup.sh, which builds the crate's ssa.rs
+(cranelift-frontend 0.137.1) over cranelift-codegen 0.123.13 and its driver; it is handed out beside this repository and not with it.
+  looked for: $oracle/setup.sh (--oracle DIR names another place), $built (--built DIR)
+  without it: the gate replays the oracle's stored answers (rt check sangvireb), and compare/run walk, hostile and memcheck need the library alone
+TEXT
+        exit 2
+    fi
     [ -x "$built/target/release/oracle-driver" ] || "$oracle/setup.sh" "$built"
     local crates=$built/reg/usr/share/cargo/registry
     with+=(--config 'source.crates-io.replace-with="unpacked"' --config "source.unpacked.directory=\"$crates\"")

@@ -1,4 +1,4 @@
-//! The crate's side: the given ssa.rs over cranelift, with the function that it builds.
+//! The crate's side: its own ssa.rs over cranelift, with the function that it builds.
 use lists::Call;
 use oracle::Variable;
 use oracle::cranelift_codegen::cursor::{Cursor, FuncCursor};

@@ -7,7 +7,7 @@ use lists::{Call, MAX_CALLS};
 use oracle::hook::Heights;
 use sangvireb::raw::{RUN, UNFIT};
 
-/// Room for scheduled calls and results: document 01's bounds, which the layout of `work` also gives.
+/// Room for scheduled calls and results: the bounds of docs/RULES.md, which the layout of `work` also gives.
 const HIGHEST: Heights = Heights { scheduled: 576, results: 513 };
 
 pub struct Both {

@@ -86,7 +86,7 @@ impl Error for Refusal {}
 pub(crate) fn answer(code: u32, number: u32) -> Result<u32, Refusal> {
     match code {
         0 => Ok(number),
-        // The contracts of `session` and `resolve` pin each code to one that document 01 names. Another would be a broken library, and
+        // The contracts of `session` and `resolve` pin each code to one that docs/RULES.md names. Another would be a broken library, and
         // going on with it would be worse than stopping.
         _ => Err(Refusal::from_code(code).expect("proved: a code is 0 or one of Refusal::ALL")),
     }

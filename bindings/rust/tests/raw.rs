@@ -2,7 +2,7 @@
 use sangvireb::raw;
 
 const GARBAGE: u32 = 0xa5a5_a5a5;
-/// Case B of document 01: declare block 0 and the I32 variable 0, use it there, seal.
+/// Case B of docs/RULES.md: declare block 0 and the I32 variable 0, use it there, seal.
 const KINDS: [u32; 4] = [1, 2, 6, 11];
 const XS: [u32; 4] = [0; 4];
 const YS: [u32; 4] = [GARBAGE, 2, 0, GARBAGE];

@@ -1,4 +1,4 @@
-//! The starred cases A to L of document 01: every answer, parameter, argument, alias and zero.
+//! The starred cases A to L of docs/RULES.md: every answer, parameter, argument, alias and zero.
 mod common;
 use common::{builder, jump, set, FIRST, SECOND};
 use sangvireb::Sort::{self, Made, Parameter, Zero};

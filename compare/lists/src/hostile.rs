@@ -1,4 +1,4 @@
-//! Anything at all as calls, as lengths and as what the tables hold: the library answers as document 01 says and touches nothing that was not lent.
+//! Anything at all as calls, as lengths and as what the tables hold: the library answers as docs/RULES.md says and touches nothing that was not lent.
 use crate::fence::{Ground, Side};
 use crate::lent::{TABLES, needs};
 use crate::progress::Progress;
@@ -93,7 +93,7 @@ fn garbage(len: usize, rng: &mut Rng) -> Vec<u32> {
     }
 }
 
-/// What document 01 says of the lengths alone.
+/// What docs/RULES.md says of the lengths alone.
 fn whole_answer(lists: &Lists) -> u32 {
     let calls = lists[0].len();
     if lists[..4].iter().any(|list| list.len() != calls) || calls > MAX_CALLS {
@@ -179,7 +179,7 @@ fn round(field: &mut Field, rng: &mut Rng, figures: &mut Figures) -> Result<(), 
     Ok(())
 }
 
-/// Document 01's words on resolving, taken literally.
+/// What docs/RULES.md says of resolving, taken literally.
 fn resolved(targets: &[u32], value: u32) -> (u32, u32) {
     if value as usize >= targets.len() {
         return (6, 0);

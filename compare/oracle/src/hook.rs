@@ -2,7 +2,7 @@
 use cranelift_codegen::ir::{Block, Value};
 use std::cell::RefCell;
 
-/// The bounds that document 01 gives: 576 scheduled calls in one run, 513 results.
+/// The bounds that docs/RULES.md gives: 576 scheduled calls in one run, 513 results.
 #[derive(Clone, Copy, Default)]
 pub struct Heights {
     pub scheduled: usize,

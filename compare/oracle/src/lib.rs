@@ -1,4 +1,4 @@
-//! The given ssa.rs over the real cranelift, called as a function: a list of calls in, the oracle's dump out.
+//! The crate's own ssa.rs over the real cranelift, called as a function: a list of calls in, the oracle's dump out.
 extern crate alloc;
 
 // the oracle's modules, and under the names that they expect at the crate's root: `Variable`, `hook`, `no12`, `big`
@@ -10,12 +10,12 @@ pub use variable::Variable;
 use std::cell::Cell;
 use std::panic::{AssertUnwindSafe, catch_unwind};
 
-/// A branch declared twice gets code 12 here, as document 01 says.
+/// A branch declared twice gets code 12 here, as docs/RULES.md says.
 pub fn no12() -> bool {
     false
 }
 
-/// The limits are those of document 01.
+/// The limits are those of docs/RULES.md.
 pub fn big() -> bool {
     false
 }

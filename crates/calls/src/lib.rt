@@ -1,9 +1,10 @@
 // One call over lent cells: each kind has its function, and those that read a variable or seal a block stand here.
 ghost use mathlib.Core.Path.{_≡_};
+ghost use Rattle.entity.specs.Options.{value-of};
 ghost use Rattle.definition.specs.Session.{State, use-var, seal, seal-all, answered, reply};
-ghost use Rattle.definition.specs.Tables.{plus-one};
 ghost use Rattle.calls.specs.Calls.{State-with, Between, Answers, Replied};
 use entity::Block;
+use entity::OptionValue;
 use entity::Variable;
 use layout::Counts;
 use reply::Reply;
@@ -59,7 +60,7 @@ fn seal_all_blocks(graph: &mut [u32], form: &mut [u32], work: &mut [u32], c: Cou
     reply::accept(after - before, d)
 }
 
-// One call: each kind has its function. w is what the use at place y answered, plus one; 0 for none.
+// One call: each kind has its function. For kind 5 w is what the use at place y answered; the others do not read it.
 pub fn one_call(
     graph: &mut [u32],
     form: &mut [u32],
@@ -69,10 +70,11 @@ pub fn one_call(
     x: u32,
     y: u32,
     z: u32,
-    w: u32,
+    w: OptionValue,
 ) -> Reply
     requires { ⌜ State-with (Between (now graph) (now form) (now work) c) ⌝ }
-    ensures { λ r. ⌜ ((t : State) → w ≡ plus-one (answered (t .done) y) → Between (now (graph .entry)) (now (form .entry)) (now (work .entry)) c t
+    ensures { λ r. ⌜ ((t : State) → (kind ≡ 5 → value-of w ≡ answered (t .done) y)
+        → Between (now (graph .entry)) (now (form .entry)) (now (work .entry)) c t
         → Replied (now (graph .exit)) (now (form .exit)) (now (work .exit)) r (t .graph) (t .form) (reply (t .graph) (t .form) (t .done) x y z kind)) ⌝ }
 {
     match kind {

@@ -1,2 +1,1 @@
 pub mod Can
-pub mod Earlier

@@ -1,12 +1,12 @@
-// The kinds of call that bring something in: blocks, variables, values, definitions, branches. Document 01's checks in its order, then the change.
+// The kinds of call that bring something in: blocks, variables, values, definitions, branches. The checks of docs/RULES.md in its order, then the change.
 ghost use mathlib.Core.Path.{_≡_};
-ghost use mathlib.Core.Option.{Option};
 ghost use mathlib.Core.List.{List};
 ghost use Prim.Native.Nat.{ℕ};
+ghost use Rattle.entity.specs.Options.{value-of};
 ghost use Rattle.definition.specs.Session.{declare-block, declare-var, make-value, define, define-answer, new-branch};
-ghost use Rattle.definition.specs.Tables.{plus-one};
 ghost use Rattle.reply.specs.Replies.{Some-state, Answers};
 use entity::Block;
+use entity::OptionValue;
 use entity::Type;
 use entity::Value;
 use entity::Variable;
@@ -105,16 +105,16 @@ pub fn define(graph: &[u32], form: &mut [u32], c: Counts, x: u32, y: u32, z: u32
     reply::accept(y, c)
 }
 
-// Kind 5. The value comes from an earlier call: w is that use's answer plus one, 0 where the call was no accepted use.
-pub fn define_answer(graph: &[u32], form: &mut [u32], c: Counts, x: u32, z: u32, w: u32) -> Reply
+// Kind 5. The value comes from an earlier call: w is that use's answer, and none where the call was no accepted use.
+pub fn define_answer(graph: &[u32], form: &mut [u32], c: Counts, x: u32, z: u32, w: OptionValue) -> Reply
     requires { ⌜ Some-state (now graph) (now form) c ⌝ }
-    ensures { λ r. ⌜ ((o : Option ℕ) → w ≡ plus-one o
-        → Answers (now (graph .entry)) (now (form .entry)) (now (graph .entry)) (now (form .exit)) c r (λ g s. define-answer g s x z o)) ⌝ }
+    ensures { λ r. ⌜ Answers (now (graph .entry)) (now (form .entry)) (now (graph .entry)) (now (form .exit)) c r
+        (λ g s. define-answer g s x z (value-of w)) ⌝ }
 {
-    if w == 0 {
+    let OptionValue::Some(val) = w else {
         return reply::refuse(reply::ABSENT, c);
-    }
-    define(graph, form, c, x, w - 1, z)
+    };
+    define(graph, form, c, x, val.0, z)
 }
 
 // Kind 7. A branch places its block, which may have no value.

@@ -1,9 +1,9 @@
 -- The state: the graph, and the form that is built over it.
 -- Assumes nothing.
-use Prim.Native.Nat.{ℕ, zero, suc, _+_}
-use mathlib.Core.Bool.{Bool, true, false}
-use mathlib.Core.Option.{Option, none, some}
-use mathlib.Core.List.{List, [], _∷_, _++_}
+use Prim.Native.Nat.{ℕ}
+use mathlib.Core.Bool.{Bool}
+use mathlib.Core.Option.{Option}
+use mathlib.Core.List.{List}
 use Rattle.definition.specs.Base.{Block, Variable, Value, orElse}
 
 -- What does not change while a variable is read.

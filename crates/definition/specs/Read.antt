@@ -1,13 +1,13 @@
 -- Reading and writing a variable, settling a parameter: Braun and others, algorithms 1 to 4.
--- P1 to P7 mark where the crate departs from the paper; docs/DIFFERENCES.md has them with their reasons. Assumes nothing.
-use Prim.Native.Nat.{ℕ, zero, suc, _+_}
+-- P1 to P8 mark where the crate departs from the paper; docs/DIFFERENCES.md has them with their reasons. Assumes nothing.
+use Prim.Native.Nat.{ℕ, zero, suc}
 use mathlib.Core.Bool.{Bool, true, false, _&&_}
 use mathlib.Core.Option.{Option, none, some}
-use mathlib.Core.List.{List, [], _∷_, _++_, map}
+use mathlib.Core.List.{List, [], _∷_, map}
 use lib.Dec.{eqb}
 use lib.ListN.{getD}
 use Rattle.definition.specs.Base.{Block, Variable, Value, _=?_, if_then_else_, put, put₂, _∷ʳ_, has, every, without, before}
-use Rattle.definition.specs.Form.{Graph, Form, Info, Sort, made, param, nought, def, with-next, with-info, with-target}
+use Rattle.definition.specs.Form.{Graph, Form, Sort, param, nought, def, with-next, with-info, with-target}
 use Rattle.definition.specs.Form.{with-params, with-args, with-pending, with-entry, with-own, with-zeros, with-placed}
 
 -- a change of the form, with the value that it answers
@@ -144,7 +144,7 @@ walk (suc n) g s v seen b = past (walk n g s v (b ∷ seen)) s v b (has b seen) 
 -- ---- reading
 -- Reading calls itself at each predecessor: that is `rec`.
 
--- read each predecessor in turn
+-- Read each predecessor in turn. P8: the paper gives no order here; the crate reads them as they were declared.
 abbrev pub read-all : (Block → Form → Got) → List Block → Form → List Value × Form
 read-all rec [] s = ([], s)
 read-all rec (p ∷ ps) s = let r = rec p s in let q = read-all rec ps (r .1) in (r .0 ∷ q .0, q .1)
@@ -179,7 +179,8 @@ read (suc n) g v b s = read-on (read n g v) g v b s (def s v b)
 abbrev pub depth : Graph → ℕ
 depth g = suc (g .blocks)
 
--- sealBlock: settle the pending variables in order, where g has the block marked as sealed
+-- sealBlock: settle the pending variables in the order in which they came to wait, where g has the block marked as sealed.
+-- P8: the paper gives no order here either.
 abbrev pub settle-pending : Graph → Block → List (Variable × Value) → Form → Form
 settle-pending g b [] s = s
 settle-pending g b (w ∷ ws) s = settle-pending g b ws (fill (read (depth g) g (w .0)) g b (w .1) s .1)

@@ -1,7 +1,14 @@
--- The twelve starred cases of document 01 as one list with one claim: all answers and every table that each leaves. What is expected is what the
--- crate itself answered and left. The claim is proved by computation.
+-- The twelve starred cases of docs/RULES.md as one list with one claim: all answers and every table that each leaves. The claim is proved by computation.
+-- What is expected is what a run of the crate gave: its own ssa.rs, behind a driver that makes blocks, values and branches, and tests our rules before it
+-- calls the crate (compare/README.md). So part of it is the crate's own, and part rests on our rules:
+-- - The crate's own: the answers of kinds 6 (the value), 11 and 12 (how many zeros it reported); the values, their numbers, types and alias targets, which of
+--   them are parameters and zeros, and in which block; parameters, arguments, predecessors, pending variables, sealed marks, last definitions; of the zero
+--   log the blocks.
+-- - Read off the crate's tables by the driver: the answers of kinds 3 (the value's number), 9 (how many predecessors there are) and 10 (the place).
+-- - Our rules': the answers of kinds 1, 2, 4, 7 and 8; every code but 0 (12 in H, 8 in L); blocks, variables and their types, made values and their blocks,
+--   branches and the blocks that they name; of the zero log the calls; the order of blocks placed (the crate places a block only where it adds a zero to it,
+--   and in these cases such a block is placed before).
 -- Assumes nothing.
-use Prim.Native.Nat.{ℕ}
 use mathlib.Core.Path.{_≡_, refl}
 use mathlib.Core.List.{List, [], _∷_, _++_, map}
 use Rattle.definition.specs.Session.{Call, session}
@@ -66,7 +73,7 @@ cases =
     ) ∷
     -- L. Seal twice: second answers code 8.
     (
-    blocks 1 ++ seal 0 ∷ seal 0 ∷ []
+    blocks 1 ++ declare-var 0 i32 ∷ seal 0 ∷ seal 0 ∷ []
     ) ∷
     []
 
@@ -76,6 +83,7 @@ expected =
     record {
       counts = (1 ∷ 1 ∷ 2 ∷ 0 ∷ 1 ∷ []);
       answers = ((0, 0) ∷ (0, 0) ∷ (0, 0) ∷ (0, 1) ∷ (0, 0) ∷ []);
+      types = (2 ∷ []);
       values = ((1, 2, 0, 1) ∷ (2, 2, 0, 1) ∷ []);
       params = ([] ∷ []);
       branches = ([] ∷ []);
@@ -90,6 +98,7 @@ expected =
     record {
       counts = (1 ∷ 1 ∷ 2 ∷ 0 ∷ 1 ∷ []);
       answers = ((0, 0) ∷ (0, 0) ∷ (0, 0) ∷ (0, 1) ∷ []);
+      types = (2 ∷ []);
       values = ((1, 2, 0, 1) ∷ (2, 2, 0, 1) ∷ []);
       params = ([] ∷ []);
       branches = ([] ∷ []);
@@ -105,6 +114,7 @@ expected =
       counts = (4 ∷ 1 ∷ 3 ∷ 2 ∷ 0 ∷ []);
       answers = ((0, 0) ∷ (0, 1) ∷ (0, 2) ∷ (0, 3) ∷ (0, 0) ∷ (0, 0) ∷ (0, 0) ∷ (0, 1) ∷ (0, 1) ∷ (0, 0) ∷ (0, 0) ∷ (0, 1) ∷
           (0, 1) ∷ (0, 1) ∷ (0, 1) ∷ (0, 0) ∷ (0, 1) ∷ (0, 2) ∷ (0, 0) ∷ (0, 2) ∷ (0, 0) ∷ (0, 2) ∷ []);
+      types = (2 ∷ []);
       values = ((0, 2, 1, 0) ∷ (0, 2, 2, 1) ∷ (1, 2, 3, 2) ∷ []);
       params = ([] ∷ [] ∷ [] ∷ (2 ∷ []) ∷ []);
       branches = ((((1, []) ∷ (2, []) ∷ []) ∷ []) ∷ (((3, (0 ∷ [])) ∷ []) ∷ []) ∷ (((3, (1 ∷ [])) ∷ []) ∷ []) ∷ [] ∷ []);
@@ -120,6 +130,7 @@ expected =
       counts = (4 ∷ 1 ∷ 3 ∷ 2 ∷ 0 ∷ []);
       answers = ((0, 0) ∷ (0, 1) ∷ (0, 2) ∷ (0, 3) ∷ (0, 0) ∷ (0, 0) ∷ (0, 0) ∷ (0, 1) ∷ (0, 1) ∷ (0, 0) ∷ (0, 0) ∷ (0, 1) ∷
           (0, 1) ∷ (0, 1) ∷ (0, 1) ∷ (0, 0) ∷ (0, 1) ∷ (0, 2) ∷ (0, 0) ∷ (0, 2) ∷ (0, 0) ∷ (0, 2) ∷ []);
+      types = (2 ∷ []);
       values = ((0, 2, 0, 0) ∷ (0, 2, 1, 1) ∷ (1, 2, 3, 2) ∷ []);
       params = ([] ∷ [] ∷ [] ∷ (2 ∷ []) ∷ []);
       branches = ((((1, []) ∷ (2, []) ∷ []) ∷ []) ∷ (((3, (1 ∷ [])) ∷ []) ∷ []) ∷ (((3, (0 ∷ [])) ∷ []) ∷ []) ∷ [] ∷ []);
@@ -135,6 +146,7 @@ expected =
       counts = (4 ∷ 1 ∷ 2 ∷ 1 ∷ 0 ∷ []);
       answers = ((0, 0) ∷ (0, 1) ∷ (0, 2) ∷ (0, 3) ∷ (0, 0) ∷ (0, 0) ∷ (0, 0) ∷ (0, 0) ∷ (0, 0) ∷ (0, 1) ∷ (0, 1) ∷ (0, 1) ∷
           (0, 1) ∷ (0, 0) ∷ (0, 1) ∷ (0, 2) ∷ (0, 0) ∷ (0, 2) ∷ (0, 0) ∷ (0, 0) ∷ (0, 1) ∷ []);
+      types = (2 ∷ []);
       values = ((0, 2, 0, 0) ∷ (1, 2, 3, 0) ∷ []);
       params = ([] ∷ [] ∷ [] ∷ [] ∷ []);
       branches = ((((1, []) ∷ (2, []) ∷ []) ∷ []) ∷ (((3, []) ∷ []) ∷ []) ∷ (((3, []) ∷ []) ∷ []) ∷ [] ∷ []);
@@ -150,6 +162,7 @@ expected =
       counts = (2 ∷ 1 ∷ 2 ∷ 1 ∷ 0 ∷ []);
       answers = ((0, 0) ∷ (0, 1) ∷ (0, 0) ∷ (0, 0) ∷ (0, 0) ∷ (0, 0) ∷ (0, 0) ∷ (0, 1) ∷ (0, 0) ∷ (0, 1) ∷ (0, 1) ∷ (0, 0) ∷
           (0, 2) ∷ (0, 0) ∷ []);
+      types = (2 ∷ []);
       values = ((0, 2, 0, 0) ∷ (1, 2, 1, 0) ∷ []);
       params = ([] ∷ [] ∷ []);
       branches = ((((1, []) ∷ []) ∷ []) ∷ (((1, []) ∷ []) ∷ []) ∷ []);
@@ -165,6 +178,7 @@ expected =
       counts = (2 ∷ 1 ∷ 3 ∷ 2 ∷ 0 ∷ []);
       answers = ((0, 0) ∷ (0, 1) ∷ (0, 0) ∷ (0, 0) ∷ (0, 0) ∷ (0, 0) ∷ (0, 0) ∷ (0, 1) ∷ (0, 0) ∷ (0, 1) ∷ (0, 2) ∷ (0, 2) ∷
           (0, 1) ∷ (0, 0) ∷ (0, 2) ∷ (0, 0) ∷ []);
+      types = (2 ∷ []);
       values = ((0, 2, 0, 0) ∷ (1, 2, 1, 1) ∷ (0, 2, 1, 2) ∷ []);
       params = ([] ∷ (1 ∷ []) ∷ []);
       branches = ((((1, (0 ∷ [])) ∷ []) ∷ []) ∷ (((1, (2 ∷ [])) ∷ []) ∷ []) ∷ []);
@@ -180,6 +194,7 @@ expected =
       counts = (3 ∷ 1 ∷ 3 ∷ 2 ∷ 0 ∷ []);
       answers = ((0, 0) ∷ (0, 1) ∷ (0, 2) ∷ (0, 0) ∷ (0, 0) ∷ (0, 0) ∷ (0, 1) ∷ (0, 1) ∷ (0, 0) ∷ (0, 0) ∷ (0, 1) ∷ (0, 1) ∷
           (12, 0) ∷ (0, 2) ∷ (0, 0) ∷ (0, 2) ∷ (0, 0) ∷ (0, 2) ∷ []);
+      types = (2 ∷ []);
       values = ((0, 2, 0, 0) ∷ (0, 2, 2, 1) ∷ (1, 2, 1, 2) ∷ []);
       params = ([] ∷ (2 ∷ []) ∷ [] ∷ []);
       branches = ((((1, (0 ∷ [])) ∷ (1, (0 ∷ [])) ∷ []) ∷ []) ∷ [] ∷ (((1, (1 ∷ [])) ∷ []) ∷ []) ∷ []);
@@ -195,6 +210,7 @@ expected =
       counts = (3 ∷ 1 ∷ 2 ∷ 0 ∷ 1 ∷ []);
       answers = ((0, 0) ∷ (0, 1) ∷ (0, 2) ∷ (0, 0) ∷ (0, 1) ∷ (0, 0) ∷ (0, 1) ∷ (0, 2) ∷ (0, 0) ∷ (0, 1) ∷ (0, 0) ∷ (0, 1) ∷
           []);
+      types = (2 ∷ []);
       values = ((1, 2, 1, 1) ∷ (2, 2, 1, 1) ∷ []);
       params = ([] ∷ [] ∷ [] ∷ []);
       branches = ([] ∷ (((2, []) ∷ []) ∷ []) ∷ (((1, []) ∷ []) ∷ []) ∷ []);
@@ -210,6 +226,7 @@ expected =
       counts = (2 ∷ 2 ∷ 4 ∷ 2 ∷ 0 ∷ []);
       answers = ((0, 0) ∷ (0, 1) ∷ (0, 0) ∷ (0, 1) ∷ (0, 0) ∷ (0, 0) ∷ (0, 1) ∷ (0, 1) ∷ (0, 0) ∷ (0, 0) ∷ (0, 1) ∷ (0, 0) ∷
           (0, 2) ∷ (0, 3) ∷ (0, 3) ∷ (0, 2) ∷ (0, 1) ∷ (0, 0) ∷ (0, 2) ∷ (0, 0) ∷ []);
+      types = (2 ∷ 2 ∷ []);
       values = ((0, 2, 0, 0) ∷ (0, 2, 0, 1) ∷ (1, 2, 1, 2) ∷ (1, 2, 1, 3) ∷ []);
       params = ([] ∷ (2 ∷ 3 ∷ []) ∷ []);
       branches = ((((1, (0 ∷ 1 ∷ [])) ∷ []) ∷ []) ∷ (((1, (3 ∷ 2 ∷ [])) ∷ []) ∷ []) ∷ []);
@@ -225,6 +242,7 @@ expected =
       counts = (4 ∷ 1 ∷ 0 ∷ 0 ∷ 0 ∷ []);
       answers = ((0, 0) ∷ (0, 1) ∷ (0, 2) ∷ (0, 3) ∷ (0, 0) ∷ (0, 0) ∷ (0, 0) ∷ (0, 1) ∷ (0, 1) ∷ (0, 0) ∷ (0, 2) ∷ (0, 2) ∷
           (0, 0) ∷ (0, 3) ∷ (0, 0) ∷ []);
+      types = (2 ∷ []);
       values = [];
       params = ([] ∷ [] ∷ [] ∷ [] ∷ []);
       branches = ((((3, []) ∷ []) ∷ []) ∷ (((3, []) ∷ []) ∷ []) ∷ (((3, []) ∷ []) ∷ []) ∷ [] ∷ []);
@@ -237,15 +255,16 @@ expected =
     } ∷
     -- L
     record {
-      counts = (1 ∷ 0 ∷ 0 ∷ 0 ∷ 0 ∷ []);
-      answers = ((0, 0) ∷ (0, 0) ∷ (8, 0) ∷ []);
+      counts = (1 ∷ 1 ∷ 0 ∷ 0 ∷ 0 ∷ []);
+      answers = ((0, 0) ∷ (0, 0) ∷ (0, 0) ∷ (8, 0) ∷ []);
+      types = (2 ∷ []);
       values = [];
       params = ([] ∷ []);
       branches = ([] ∷ []);
       preds = ([] ∷ []);
       pending = ([] ∷ []);
       sealed = (1 ∷ []);
-      last = ([] ∷ []);
+      last = ((0 ∷ []) ∷ []);
       zeros = [];
       placed = (0 ∷ []);
     } ∷

@@ -1,4 +1,4 @@
--- All that a session leaves, laid open as lists: every answer, and every table of document 01.
+-- All that a session leaves, laid open as lists: every answer, and every table of docs/RULES.md.
 -- Assumes nothing.
 use Prim.Native.Nat.{ℕ, suc}
 use mathlib.Core.Bool.{Bool, true, false}
@@ -12,6 +12,7 @@ use Rattle.definition.specs.Session.{Done, State, bit}
 pub record Tables : Type 0 where
   pub counts : List ℕ  -- blocks, variables, values, made values, zeros
   pub answers : List (ℕ × ℕ)  -- code, number
+  pub types : List ℕ  -- by variable
   pub values : List (ℕ × ℕ × ℕ × ℕ)  -- sort, type, block, alias target
   pub params : List (List ℕ)  -- by block
   pub branches : List (List (List (ℕ × List ℕ)))  -- by block: no branch, or one; each destination's block and arguments
@@ -51,6 +52,7 @@ module _ (g : Graph) (s : Form) where
   tables-of ds bs = record {
     counts = g .blocks ∷ length (g .types) ∷ s .next ∷ s .makes ∷ length (s .zeros) ∷ [];
     answers = map (λ d. (d .code, d .number)) ds;
+    types = g .types;
     values = map value-row (upFrom 0 (s .next));
     params = map (s .params) bs;
     branches = map (λ b. branch-row b (g .branch b)) bs;

@@ -1,6 +1,7 @@
 -- A whole session: the lengths of what is lent decide whether it is run at all; if it is, the calls are run in turn.
 -- Assumes nothing.
 use Prim.Native.Nat.{ℕ}
+use mathlib.Core.Path.{_≡_, refl}
 use mathlib.Core.Bool.{Bool, not, _&&_, _||_}
 use mathlib.Core.List.{List, [], _∷_}
 use lib.ListN.{length}
@@ -40,3 +41,7 @@ unfit ks xs ys zs =
 -- what the session itself answers: 2 or 1 when it is refused whole, 0 when it is run
 abbrev pub whole-answer : List ℕ → List ℕ → List ℕ → List ℕ → Lengths → ℕ
 whole-answer ks xs ys zs t = if unfit ks xs ys zs then 2 else if short (needs (length ks)) t then 1 else 0
+
+-- 2 comes before 1: one kind without its numbers, and lists with no cell for its answer
+both-wrong : whole-answer (1 ∷ []) [] [] [] (needs 0) ≡ 2
+both-wrong = refl

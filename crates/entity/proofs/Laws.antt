@@ -2,7 +2,6 @@
 -- Assumes nothing.
 use Prim.Native.Nat.{ℕ, zero, suc, _≤_, _<_}
 use mathlib.Core.Path.{_≡_, refl}
-use native.Mathlib.Decide.{decLt}
 use native.Mathlib.Omega.{arith}
 use lib.ListN.{List·getD-eq-default}
 use Rattle.entity.specs.Types.{type-count, types, number-of, type-with}
@@ -18,9 +17,6 @@ found-again I64 = refl
 found-again F32 = refl
 found-again F64 = refl
 
-pub same-number : (s t : «Type») → number-of s ≡ number-of t → s ≡ t
-same-number s t e = cc (found-again s, found-again t)
-
 pub known-found : (n : ℕ) → n < type-count → (t : «Type») × (type-with n ≡ Is t)
 known-found zero h = (I8, refl)
 known-found (suc zero) h = (I16, refl)
@@ -32,16 +28,3 @@ known-found (suc (suc (suc (suc (suc (suc n)))))) h = absurd (omega arith)
 
 pub unknown-not-found : (n : ℕ) → type-count ≤ n → type-with n ≡ Nothing
 unknown-not-found n h = List·getD-eq-default types Nothing h
-
-pub found-known : (n : ℕ) (t : «Type») → type-with n ≡ Is t → n < type-count
-found-known n t e = go (decLt n type-count)
-  where
-    go : Dec (n < type-count) → n < type-count
-    go (yes h) = h
-    go (no h) =
-        let u = unknown-not-found n (omega arith) in
-        let z : _≡_ {A = ℕ} 0 1 = cc in
-        absurd (omega arith)
-
-pub number-known : (t : «Type») → number-of t < type-count
-number-known t = found-known (number-of t) t (found-again t)

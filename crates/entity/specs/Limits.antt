@@ -1,4 +1,4 @@
--- The limits of document 01, and the rooms that follow from them. To raise a limit, edit its number in `limits` and in src/lib.rt.
+-- The limits of docs/RULES.md, and the rooms that follow from them. To raise a limit, edit its number in `limits` and in src/lib.rt.
 -- Assumes nothing.
 use Prim.Native.Nat.{ℕ, suc, _+_, _*_}
 

@@ -43,3 +43,11 @@ zero-of I32 = 0
 zero-of I64 = 0
 zero-of F32 = 0
 zero-of F64 = 0
+
+-- the same by the type's number; a number that names no type gets 0
+abbrev pub zero-found : Found → ℕ
+zero-found (Is t) = zero-of t
+zero-found Nothing = 0
+
+abbrev pub zero-with : ℕ → ℕ
+zero-with n = zero-found (type-with n)

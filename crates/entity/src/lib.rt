@@ -14,6 +14,17 @@ pub struct Value(pub u32);
 // A branch bears the number of its block.
 pub struct Branch(pub u32);
 
+// A value or a block that may be missing, where the original has a `PackedOption`. A cell has its number plus one, 0 for none.
+pub enum OptionValue {
+    Some(Value),
+    None,
+}
+
+pub enum OptionBlock {
+    Some(Block),
+    None,
+}
+
 pub enum Type {
     I8,
     I16,

@@ -1,6 +1,6 @@
 // What C and Rust link: the public calls under names of their own.
 ghost use Rattle.definition.specs.Resolve.{Resolved};
-ghost use Rattle.turns.specs.Turns.{lent};
+ghost use Rattle.layout.specs.Outcome.{lent};
 ghost use Rattle.session.specs.Ends.{Ended};
 use entity::Value;
 

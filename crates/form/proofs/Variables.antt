@@ -1,8 +1,8 @@
 -- Definitions and pending variables in the cells: a cell of a grid, and a row of a table.
 -- Assumes nothing.
-use Prim.Native.Nat.{ℕ, _+_, _*_, _≤_, _<_}
+use Prim.Native.Nat.{ℕ, _+_, _-_, _*_, _≤_, _<_}
 use mathlib.Core.Path.{_≡_, refl, sym, ap, _∙_}
-use mathlib.Core.Option.{Option, some}
+use mathlib.Core.Option.{Option, none, some}
 use mathlib.Core.List.{List, [], _∷_, _++_, map-append}
 use native.Mathlib.Omega.{arith}
 use native.Mathlib.Numerals.{add-one}
@@ -25,9 +25,25 @@ use Rattle.form.specs.Can.{Cells, Has-def, Recorded, Can-wait, Has-pendi
 
 -- ---- definitions
 
+-- what a number in a cell stands for
+none-of : {x : ℕ} (o : Option ℕ) → x ≡ plus-one o → x ≡ 0 → none ≡ o
+none-of none e z = refl
+none-of (some y) e z = absurd (omega arith)
+
+some-of : {x : ℕ} (o : Option ℕ) → x ≡ plus-one o → (x ≡ 0 → ⊥) → some (x - 1) ≡ o
+some-of none e d = absurd (d e)
+some-of {x} (some y) e d = let w : x - 1 ≡ y = omega arith in ap {B = Option ℕ} some w
+
 module _ (l : List ℕ) (v b : ℕ) where
   pub definition-is : (s : Form) → Has-def l v b s → getD l (base form-sizes 11 + (v * limits .blocks + b)) 0 ≡ plus-one (def s v b)
   definition-is s p = p .cells .at 11 (v * limits .blocks + b) (omega (arith, p .var, p .known)) ∙ grid-at (limits .blocks) (λ w d. plus-one (def s w d)) v b (p .known)
+
+  module _ (s : Form) (p : Has-def l v b s) where
+    pub no-definition : getD l (base form-sizes 11 + (v * limits .blocks + b)) 0 ≡ 0 → none ≡ def s v b
+    no-definition = none-of (def s v b) (definition-is s p)
+
+    pub the-definition : (getD l (base form-sizes 11 + (v * limits .blocks + b)) 0 ≡ 0 → ⊥) → some (getD l (base form-sizes 11 + (v * limits .blocks + b)) 0 - 1) ≡ def s v b
+    the-definition = some-of (def s v b) (definition-is s p)
 
   module _ (x : ℕ) where
     definition-stored : (s s′ : Form) → Has-def l v b s → def s′ v b ≡ some x → ((w d : ℕ) → (w ≡ v → d ≡ b → ⊥) → def s′ w d ≡ def s w d)

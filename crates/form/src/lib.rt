@@ -3,16 +3,18 @@ ghost use mathlib.Core.Path.{_≡_};
 ghost use Prim.Native.Nat.{ℕ, suc, _<_, _≤_};
 ghost use lib.ListN.{length};
 ghost use Rattle.entity.specs.Limits.{limits, value-room, param-room};
+ghost use Rattle.entity.specs.Options.{value-of};
 ghost use Rattle.definition.specs.Base.{put, put₂, _∷ʳ_, has, without};
 ghost use Rattle.definition.specs.Form.{Form, Sort, param, def, with-makes, with-target, with-args};
 ghost use Rattle.definition.specs.Read.{make as made-of, set-params, wait, log-zero, place-block};
-ghost use Rattle.definition.specs.Tables.{sort-number, plus-one};
+ghost use Rattle.definition.specs.Tables.{sort-number};
 ghost use Rattle.layout.specs.Counts.{more};
 ghost use Rattle.layout.specs.Layout.{Shows};
 ghost use Rattle.form.specs.Can.{Cells, Ex, Can-make, Can-count, Has-value, Can-append, Has-params, Next-param, Can-feed};
 ghost use Rattle.form.specs.Can.{Has-def, Recorded, Can-wait, Has-pending, Lists, Taken, Can-log, Has-placed, Can-place};
 use entity::Block;
 use entity::Branch;
+use entity::OptionValue;
 use entity::PARAM_ROW;
 use entity::Value;
 use entity::Variable;
@@ -120,17 +122,21 @@ pub fn change_to_alias(form: &mut [u32], val: Value, to: Value)
     form[TARGET + i] = to.0;
 }
 
-// The definition of the variable in the block plus one; 0 for none.
-pub fn definition(form: &[u32], var: Variable, block: Block) -> u32
+// What is recorded as the definition of the variable in the block.
+pub fn definition(form: &[u32], var: Variable, block: Block) -> OptionValue
     requires { ⌜ Ex (Has-def (now form) (var .0) (block .0)) ⌝ }
-    ensures { λ r. ⌜ ((s : Form) → Has-def (now (form .entry)) (var .0) (block .0) s → r ≡ plus-one (def s (var .0) (block .0))) ⌝ }
+    ensures { λ r. ⌜ ((s : Form) → Has-def (now (form .entry)) (var .0) (block .0) s → value-of r ≡ def s (var .0) (block .0)) ⌝ }
 {
     let v = var.0 as usize;
     let b = block.0 as usize;
-    form[DEFS + (v * entity::BLOCKS as usize + b)]
+    let cell = form[DEFS + (v * entity::BLOCKS as usize + b)];
+    if cell == 0 {
+        return OptionValue::None;
+    }
+    OptionValue::Some(Value(cell - 1))
 }
 
-// The value is the definition of the variable in the block.
+// The value is the definition of the variable in the block: plus one, so that value 0 is one too.
 pub fn record_def(form: &mut [u32], var: Variable, block: Block, val: Value)
     requires { ⌜ Ex (Has-def (now form) (var .0) (block .0)) ⌝ }
     requires { ⌜ val .0 < value-room limits ⌝ }

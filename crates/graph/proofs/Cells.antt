@@ -5,7 +5,7 @@ use Prim.Native.Nat.{ℕ, zero, suc, _+_, _≤_, _<_}
 use mathlib.Core.Path.{_≡_, refl, sym, subst}
 use mathlib.Core.Logic.{inl, inr}
 use mathlib.Core.Bool.{Bool, true, false, not}
-use mathlib.Core.Option.{some}
+use mathlib.Core.Option.{none, some}
 use mathlib.Core.List.{List, [], _∷_}
 use native.Mathlib.Nat.{le-trans}
 use native.Mathlib.Omega.{arith}
@@ -16,7 +16,6 @@ use Rattle.definition.specs.Base.{has}
 use Rattle.definition.specs.Form.{Graph}
 use Rattle.definition.specs.Read.{only, single}
 use Rattle.definition.specs.Session.{bit}
-use Rattle.definition.specs.Tables.{plus-one}
 use Rattle.meaning.specs.Path.{In}
 use Rattle.meaning.proofs.Maps.{false-true}
 use Rattle.meaning.proofs.Sums.{pigeon}
@@ -41,24 +40,24 @@ mark-is x false e = rw e
 
 -- the code's three ways to the single predecessor
 module _ (g : Graph) (b : ℕ) where
-  pub single-open : g .sealed b ≡ false → 0 ≡ plus-one (single g b)
+  pub single-open : g .sealed b ≡ false → none ≡ single g b
   single-open e = rw e
 
-  pub single-many : (length (g .preds b) ≡ 1 → ⊥) → 0 ≡ plus-one (single g b)
+  pub single-many : (length (g .preds b) ≡ 1 → ⊥) → none ≡ single g b
   single-many d = by (g .sealed b) (g .preds b) d
     where
-      by : (z : Bool) (ps : List ℕ) → (length ps ≡ 1 → ⊥) → 0 ≡ plus-one (only z ps)
+      by : (z : Bool) (ps : List ℕ) → (length ps ≡ 1 → ⊥) → none ≡ only z ps
       by false ps d = refl
       by true [] d = refl
       by true (p ∷ []) d = absurd (d refl)
       by true (p ∷ q ∷ ps) d = refl
 
-  pub single-one : (p : ℕ) → g .sealed b ≡ true → length (g .preds b) ≡ 1 → p ≡ getD (g .preds b) 0 0 → p + 1 ≡ plus-one (single g b)
+  pub single-one : (p : ℕ) → g .sealed b ≡ true → length (g .preds b) ≡ 1 → p ≡ getD (g .preds b) 0 0 → some p ≡ single g b
   single-one p e n at = rw (e, at) (by (g .preds b) n)
     where
-      by : (ps : List ℕ) → length ps ≡ 1 → getD ps 0 0 + 1 ≡ plus-one (only true ps)
+      by : (ps : List ℕ) → length ps ≡ 1 → some (getD ps 0 0) ≡ only true ps
       by [] n = absurd (omega arith)
-      by (p ∷ []) n = omega arith
+      by (p ∷ []) n = refl
       by (p ∷ q ∷ ps) n = absurd (omega arith)
 
 module _ {cells : List ℕ} {g : Graph} (s : Seen cells g) where

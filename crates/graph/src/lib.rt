@@ -5,16 +5,17 @@ ghost use mathlib.Core.Bool.{true};
 ghost use Prim.Native.Nat.{suc, _<_, _≤_};
 ghost use lib.ListN.{length, getD};
 ghost use Rattle.entity.specs.Limits.{limits, pred-room};
+ghost use Rattle.entity.specs.Options.{block-of};
 ghost use Rattle.definition.specs.Base.{put, has, position, _∷ʳ_};
 ghost use Rattle.definition.specs.Form.{Graph, with-blocks, with-types, with-branch, with-dests, with-preds};
 ghost use Rattle.definition.specs.Read.{type-of, single};
 ghost use Rattle.definition.specs.Session.{swap-out, declared-anywhere, mark-sealed};
-ghost use Rattle.definition.specs.Tables.{plus-one};
 ghost use Rattle.graph.specs.Seen.{Graph-with, Shown, Seen, dests-start, preds-start};
 ghost use Rattle.graph.specs.Seen.{Can-declare-variable, Can-declare-dest, Can-declare-predecessor, Can-remove-predecessor};
 use entity::Block;
 use entity::Branch;
 use entity::DEST_ROW;
+use entity::OptionBlock;
 use entity::PRED_ROW;
 use entity::Variable;
 use layout::BLOCK_COUNT;
@@ -169,21 +170,20 @@ pub fn is_declared(graph: &[u32], branch: Branch) -> bool
     false
 }
 
-// The single predecessor of a sealed block plus one; 0 for none.
-pub fn single_predecessor(graph: &[u32], block: Block) -> u32
+// The block whose branch is the only one to a sealed block.
+pub fn single_predecessor(graph: &[u32], block: Block) -> OptionBlock
     requires { ⌜ Graph-with (Seen (now graph)) ⌝ }
     requires { ⌜ block .0 < limits .blocks ⌝ }
-    ensures { λ r. ⌜ r ≤ limits .blocks ⌝ }
-    ensures { λ r. ⌜ ((g : Graph) → Seen (now (graph .entry)) g → r ≡ plus-one (single g (block .0))) ⌝ }
+    ensures { λ r. ⌜ ((g : Graph) → Seen (now (graph .entry)) g → block-of r ≡ single g (block .0)) ⌝ }
 {
     if !is_sealed(graph, block) {
-        return 0;
+        return OptionBlock::None;
     }
     if predecessor_count(graph, block) != 1 {
-        return 0;
+        return OptionBlock::None;
     }
     let p = predecessor(graph, block, 0);
-    p.0 + 1
+    OptionBlock::Some(Block(p.0))
 }
 
 // The next block is there.

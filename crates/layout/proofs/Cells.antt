@@ -98,10 +98,6 @@ module _ (sizes l : List ℕ) (M : List Table) (t : ℕ) (h : Holds sizes l M) w
       outside-j i (inl q) e = omega arith
       outside-j i (inr q) e = omega arith
 
--- the same cells hold tables that say the same
-pub holds-as : (sizes l : List ℕ) (M M′ : List Table) → ((t j : ℕ) → j < getD sizes t 0 → getD M t blank j ≡ getD M′ t blank j) → Holds sizes l M → Holds sizes l M′
-holds-as sizes l M M′ e h = record { long = h .long; at = λ t j lt. h .at t j lt ∙ e t j lt }
-
 -- ---- the render
 
 line-length : (n : ℕ) (f : Table) → length (line n f) ≡ n

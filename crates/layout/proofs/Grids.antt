@@ -8,8 +8,6 @@ use native.Mathlib.Omega.{arith}
 use native.Mathlib.Nat.{div-add-mod', mod-lt}
 use lib.Arith.{digits-div, digits-mod}
 use lib.ListN.{length, getD, set}
-use Rattle.definition.specs.Base.{put}
-use Rattle.meaning.proofs.Maps.{put-same, put-other}
 use Rattle.layout.specs.Cells.{Table, blank, base, Holds, grid, cell, rows}
 use Rattle.layout.specs.Rows.{Row}
 use Rattle.layout.proofs.Cells.{Changed, inside, holds-changed, store}
@@ -73,10 +71,6 @@ module _ (sizes l : List ℕ) (M : List Table) (t : ℕ) (h : Holds sizes l M) w
     rows-changed l′ f′ pos lt ch others =
         holds-changed sizes l M t h l′ (c * w) w (cell (f′ c)) (rows w f′) lt whole ch (λ i li. grid-at w (λ r. cell (f′ r)) c i li)
         (λ j lj o. ap (λ (xs : List ℕ). cell xs (j % w)) (others (j / w) (elsewhere w c j pos o)) ∙ ap (λ (g : Table). g j) (sym is))
-
-    -- row c becomes that of xs
-    pub rows-put : (l′ xs : List ℕ) → 0 < w → t < length M → Changed l l′ (base sizes t + c * w) w (cell xs) → Holds sizes l′ (set M t (rows w (put c xs f)))
-    rows-put l′ xs pos lt ch = rows-changed l′ (put c xs f) pos lt (rw (put-same c xs f) ch) (put-other c xs f)
 
   -- one cell of a grid is stored
   pub grid-store : (w : ℕ) (f f′ : ℕ → Table) (r i v : ℕ) → getD M t blank ≡ grid w f → r * w + i < getD sizes t 0 → i < w → t < length M

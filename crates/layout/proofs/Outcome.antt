@@ -1,34 +1,73 @@
 -- The outcome keeps every length and every cell past the need; a refusal keeps all; and call lists and lengths alone fix the answer and the
 -- needed cells. Each lent list becomes cells of exactly the need's length, followed by what was past it.
 -- Assumes nothing.
-use Prim.Native.Nat.{ℕ, suc, _+_}
-use mathlib.Core.Path.{_≡_, refl, sym, ap, _∙_}
+use Prim.Native.Nat.{ℕ, suc, _≤_}
+use mathlib.Core.Path.{_≡_, refl, sym, ap, _∙_, subst}
+use mathlib.Core.Logic.{inl, inr}
 use mathlib.Core.Bool.{Bool, true, false, cond, _&&_, _||_}
 use mathlib.Core.List.{List, [], _∷_, _++_}
 use native.Mathlib.Omega.{arith}
-use borrow.Author.Tests.{ltb-false, eqb-true, not-false}
 use lib.ListN.{length, drop, length-append, length-drop, length-map}
 use lib.Seq.{take-at, drop-at}
-use Rattle.entity.specs.Limits.{limits}
+use Rattle.entity.specs.Limits.{limits, graph-need, form-need, work-need}
 use Rattle.definition.specs.Base.{_=?_, _<?_}
-use Rattle.definition.specs.Session.{Call, Done, State, Reply, no, ok, reply, after, step, run, empty, session}
+use Rattle.definition.specs.Session.{Done, State, session}
+use Rattle.definition.specs.Whole.{calls, Lengths, needs, short, unfit, whole-answer}
+use Rattle.meaning.proofs.Maps.{bool?, eqb-eq, eqb-diff, ltb-no, or-no, and-both, not-no}
+use Rattle.meaning.proofs.Steady.{calls-count}
 use Rattle.layout.specs.Layout.{graph-sizes, graph-tables, form-sizes, form-tables, work-sizes, work-tables}
-use Rattle.definition.specs.Whole.{calls, Lengths, needs, short, unfit}
 use Rattle.layout.specs.Outcome.{Lent, lengths, outcome, shown, first, past, followed-by}
 use Rattle.layout.proofs.Cells.{render-length}
 
--- ---- an answer a call
+-- ---- what the two tests of lengths say
 
-answered : (t : State) (c : Call) (r : Reply) → length (after t c r .done) ≡ length (t .done) + 1
-answered t c (no k) = length-append (t .done) (record { asked = c; code = k; number = 0 } ∷ [])
-answered t c (ok n g s) = length-append (t .done) (record { asked = c; code = 0; number = n } ∷ [])
+pub record Fits (ks xs ys zs : List ℕ) (t : Lent) : Type 0 where
+  pub few : length ks ≤ limits .calls
+  pub xs-fit : length xs ≡ length ks
+  pub ys-fit : length ys ≡ length ks
+  pub zs-fit : length zs ≡ length ks
+  pub codes-fit : length ks ≤ length (t .codes)
+  pub numbers-fit : length ks ≤ length (t .numbers)
+  pub graph-fit : graph-need limits ≤ length (t .graph)
+  pub form-fit : form-need limits ≤ length (t .form)
+  pub work-fit : work-need limits ≤ length (t .work)
 
-run-length : (t : State) (cs : List Call) → length (run t cs .done) ≡ length (t .done) + length cs
-run-length t [] = omega arith
-run-length t (c ∷ cs) = omega (arith, run-length (step t c) cs, answered t c (reply (t .graph) (t .form) (t .done) (c .x) (c .y) (c .z) (c .kind)))
+-- the session's answer, by the two tests
+abbrev pub by-tests : Bool → Bool → ℕ
+by-tests u v = cond u 2 (cond v 1 0)
 
-pub session-length : (cs : List Call) → length (session cs .done) ≡ length cs
-session-length cs = run-length empty cs ∙ omega arith
+module _ (ks xs ys zs : List ℕ) (t : Lent) where
+  pub fits : unfit ks xs ys zs ≡ false → short (needs (length ks)) (lengths t) ≡ false → Fits ks xs ys zs t
+  fits u v =
+      let n = length ks in
+      let o = or-no _ (limits .calls <? n) u in
+      let p = and-both (length xs =? n && length ys =? n) (length zs =? n) (not-no _ (o .0)) in
+      let q = and-both (length xs =? n) (length ys =? n) (p .0) in
+      let l = lengths t in
+      let m = needs n in
+      let w = or-no (l .codes <? m .codes || l .numbers <? m .numbers || l .graph <? m .graph || l .form <? m .form) (l .work <? m .work) v in
+      let f = or-no (l .codes <? m .codes || l .numbers <? m .numbers || l .graph <? m .graph) (l .form <? m .form) (w .0) in
+      let g = or-no (l .codes <? m .codes || l .numbers <? m .numbers) (l .graph <? m .graph) (f .0) in
+      let a = or-no (l .codes <? m .codes) (l .numbers <? m .numbers) (g .0) in
+      record {
+        few = ltb-no (limits .calls) n (o .1);
+        xs-fit = eqb-eq (length xs) n (q .0);
+        ys-fit = eqb-eq (length ys) n (q .1);
+        zs-fit = eqb-eq (length zs) n (p .1);
+        codes-fit = ltb-no (l .codes) (m .codes) (a .0);
+        numbers-fit = ltb-no (l .numbers) (m .numbers) (a .1);
+        graph-fit = ltb-no (l .graph) (m .graph) (g .1);
+        form-fit = ltb-no (l .form) (m .form) (f .1);
+        work-fit = ltb-no (l .work) (m .work) (w .1);
+      }
+
+  accepted-fits : whole-answer ks xs ys zs (lengths t) ≡ 0 → Fits ks xs ys zs t
+  accepted-fits = by (unfit ks xs ys zs) refl (short (needs (length ks)) (lengths t)) refl
+    where
+      by : (u : Bool) → unfit ks xs ys zs ≡ u → (v : Bool) → short (needs (length ks)) (lengths t) ≡ v → by-tests u v ≡ 0 → Fits ks xs ys zs t
+      by true p v q e = absurd (omega arith)
+      by false p true q e = absurd (omega arith)
+      by false p false q e = fits p q
 
 pub calls-length : (ks xs ys zs : List ℕ) → length xs ≡ length ks → length ys ≡ length ks → length zs ≡ length ks → length (calls ks xs ys zs) ≡ length ks
 calls-length [] xs ys zs a b c = refl
@@ -36,23 +75,6 @@ calls-length (k ∷ ks) [] ys zs a b c = a
 calls-length (k ∷ ks) (x ∷ xs) [] zs a b c = b
 calls-length (k ∷ ks) (x ∷ xs) (y ∷ ys) [] a b c = c
 calls-length (k ∷ ks) (x ∷ xs) (y ∷ ys) (z ∷ zs) a b c = ap suc (calls-length ks xs ys zs (omega arith) (omega arith) (omega arith))
-
--- ---- the tests
-
-neither : (a b : Bool) → a || b ≡ false → (a ≡ false) × (b ≡ false)
-neither true b e = absurd (let z : _≡_ {A = ℕ} 0 1 = cc in omega arith)
-neither false b e = (refl, e)
-
-both : (a b : Bool) → a && b ≡ true → (a ≡ true) × (b ≡ true)
-both true b e = (refl, e)
-both false b e = absurd (let z : _≡_ {A = ℕ} 0 1 = cc in omega arith)
-
-fit-length : (ks xs ys zs : List ℕ) → unfit ks xs ys zs ≡ false → length (calls ks xs ys zs) ≡ length ks
-fit-length ks xs ys zs e =
-    let n = length ks in
-    let p = both (length xs =? n && length ys =? n) (length zs =? n) (not-false (length xs =? n && length ys =? n && length zs =? n) (neither _ (limits .calls <? n) e .0)) in
-    let q = both (length xs =? n) (length ys =? n) (p .0) in
-    calls-length ks xs ys zs (eqb-true (length xs) n (q .0)) (eqb-true (length ys) n (q .1)) (eqb-true (length zs) n (p .1))
 
 -- ---- lists over old ones, m long
 
@@ -72,26 +94,7 @@ module _ (m : Lengths) (t : Lent) (e : lengths t ≡ m) (old : Lent) where
   work : length (t .work) ≡ m .work
   work = ap (λ (n : Lengths). n .work) e
 
-  -- the lengths of the old lists are kept
-  over-lengths : short m (lengths old) ≡ false → lengths (followed-by t (past m old)) ≡ lengths old
-  over-lengths s =
-      let l = lengths old in
-      let w = neither (l .codes <? m .codes || l .numbers <? m .numbers || l .graph <? m .graph || l .form <? m .form) (l .work <? m .work) s in
-      let f = neither (l .codes <? m .codes || l .numbers <? m .numbers || l .graph <? m .graph) (l .form <? m .form) (w .0) in
-      let g = neither (l .codes <? m .codes || l .numbers <? m .numbers) (l .graph <? m .graph) (f .0) in
-      let c = neither (l .codes <? m .codes) (l .numbers <? m .numbers) (g .0) in
-      rw (
-        one (m .codes) (t .codes) (old .codes) codes (c .0),
-        one (m .numbers) (t .numbers) (old .numbers) numbers (c .1),
-        one (m .graph) (t .graph) (old .graph) graph (g .1),
-        one (m .form) (t .form) (old .form) form (f .1),
-        one (m .work) (t .work) (old .work) work (w .1),
-      )
-    where
-      one : (n : ℕ) (xs ys : List ℕ) → length xs ≡ n → length ys <? n ≡ false → length (xs ++ drop n ys) ≡ length ys
-      one n xs ys e s = length-append xs (drop n ys) ∙ omega (arith, length-drop n ys, ltb-false (length ys) n s)
-
-  -- and so is what stands past them
+  -- what stands past them is kept
   over-past : past m (followed-by t (past m old)) ≡ past m old
   over-past =
       rw (
@@ -128,56 +131,55 @@ module _ (ks xs ys zs : List ℕ) where
   abbrev ended : State
   ended = session (calls ks xs ys zs)
 
-  fit-needs : unfit ks xs ys zs ≡ false → lengths (shown ended) ≡ needs (length ks)
-  fit-needs e = shown-lengths ended ∙ ap needs (session-length (calls ks xs ys zs) ∙ fit-length ks xs ys zs e)
-
-  -- the outcome, by the two tests
-  abbrev tested : Bool → Bool → Lent → ℕ × Lent
-  tested u v t = cond u (2, t) (cond v (1, t) (0, followed-by (shown ended) (past (needs (length ks)) t)))
+  fit-needs : {t : Lent} → Fits ks xs ys zs t → lengths (shown ended) ≡ needs (length ks)
+  fit-needs h = shown-lengths ended ∙ ap needs (calls-count (calls ks xs ys zs) .1 ∙ calls-length ks xs ys zs (h .xs-fit) (h .ys-fit) (h .zs-fit))
 
   module _ (t : Lent) where
+    abbrev answer : ℕ
+    answer = whole-answer ks xs ys zs (lengths t)
+
+    -- what is left where the session is run, and what else
+    abbrev left : Bool → Lent
+    left z = cond z (followed-by (shown ended) (past (needs (length ks)) t)) t
+
+    kept-lengths : Fits ks xs ys zs t → lengths (left true) ≡ lengths t
+    kept-lengths h =
+        let e = fit-needs h in
+        let m = needs (length ks) in
+        let s = shown ended in
+        rw (
+          one (m .codes) (s .codes) (t .codes) (codes m s e t) (h .codes-fit),
+          one (m .numbers) (s .numbers) (t .numbers) (numbers m s e t) (h .numbers-fit),
+          one (m .graph) (s .graph) (t .graph) (graph m s e t) (h .graph-fit),
+          one (m .form) (s .form) (t .form) (form m s e t) (h .form-fit),
+          one (m .work) (s .work) (t .work) (work m s e t) (h .work-fit),
+        )
+      where
+        one : (n : ℕ) (us old : List ℕ) → length us ≡ n → n ≤ length old → length (us ++ drop n old) ≡ length old
+        one n us old e l = length-append us (drop n old) ∙ omega (arith, length-drop n old)
+
+    -- what holds of lists left as they were, and of those of a session that is run, holds of the outcome
+    by-answer : (P : Lent → Type 0) → P t → (Fits ks xs ys zs t → P (left true)) → P (outcome ks xs ys zs t .1)
+    by-answer P kept new = elim (bool? (answer =? 0)) [
+      | inl e ↦ subst (λ (z : Bool). P (left z)) (sym e) (new (accepted-fits ks xs ys zs t (eqb-eq answer 0 e)))
+      | inr e ↦ subst (λ (z : Bool). P (left z)) (sym e) kept
+    ]
+
     -- a refusal changes nothing
     pub outcome-refused : (outcome ks xs ys zs t .0 ≡ 0 → ⊥) → outcome ks xs ys zs t .1 ≡ t
-    outcome-refused = by (unfit ks xs ys zs) (short (needs (length ks)) (lengths t))
-      where
-        by : (u v : Bool) → (tested u v t .0 ≡ 0 → ⊥) → tested u v t .1 ≡ t
-        by true v n = refl
-        by false true n = refl
-        by false false n = absurd (n refl)
+    outcome-refused n = ap left (eqb-diff answer 0 n)
 
     pub outcome-lengths : lengths (outcome ks xs ys zs t .1) ≡ lengths t
-    outcome-lengths = by (unfit ks xs ys zs) refl (short (needs (length ks)) (lengths t)) refl
-      where
-        by : (u : Bool) → unfit ks xs ys zs ≡ u → (v : Bool) → short (needs (length ks)) (lengths t) ≡ v → lengths (tested u v t .1) ≡ lengths t
-        by true e v f = refl
-        by false e true f = refl
-        by false e false f = over-lengths (needs (length ks)) (shown ended) (fit-needs e) t f
+    outcome-lengths = by-answer (λ u. lengths u ≡ lengths t) refl kept-lengths
 
     pub outcome-past : past (needs (length ks)) (outcome ks xs ys zs t .1) ≡ past (needs (length ks)) t
-    outcome-past = by (unfit ks xs ys zs) refl (short (needs (length ks)) (lengths t))
-      where
-        by : (u : Bool) → unfit ks xs ys zs ≡ u → (v : Bool) → past (needs (length ks)) (tested u v t .1) ≡ past (needs (length ks)) t
-        by true e v = refl
-        by false e true = refl
-        by false e false = over-past (needs (length ks)) (shown ended) (fit-needs e) t
+    outcome-past = by-answer (λ u. past (needs (length ks)) u ≡ past (needs (length ks)) t) refl (λ h. over-past (needs (length ks)) (shown ended) (fit-needs h) t)
 
     -- an accepted session shows its state
     pub outcome-first : outcome ks xs ys zs t .0 ≡ 0 → first (needs (length ks)) (outcome ks xs ys zs t .1) ≡ shown ended
-    outcome-first = by (unfit ks xs ys zs) refl (short (needs (length ks)) (lengths t))
-      where
-        by : (u : Bool) → unfit ks xs ys zs ≡ u → (v : Bool) → tested u v t .0 ≡ 0 → first (needs (length ks)) (tested u v t .1) ≡ shown ended
-        by true e v z = absurd (omega arith)
-        by false e true z = absurd (omega arith)
-        by false e false z = over-first (needs (length ks)) (shown ended) (fit-needs e) t
+    outcome-first e =
+        ap (λ (n : ℕ). first (needs (length ks)) (left (n =? 0))) e ∙ over-first (needs (length ks)) (shown ended) (fit-needs (accepted-fits ks xs ys zs t e)) t
 
-  -- call lists and lengths alone fix the answer, and the needed cells of an accepted session
+  -- call lists and lengths alone fix the answer
   pub outcome-answer : (t t′ : Lent) → lengths t ≡ lengths t′ → outcome ks xs ys zs t .0 ≡ outcome ks xs ys zs t′ .0
-  outcome-answer t t′ e = answer t ∙ ap (λ (l : Lengths). cond (unfit ks xs ys zs) 2 (cond (short (needs (length ks)) l) 1 0)) e ∙ sym (answer t′)
-    where
-      answer : (t : Lent) → outcome ks xs ys zs t .0 ≡ cond (unfit ks xs ys zs) 2 (cond (short (needs (length ks)) (lengths t)) 1 0)
-      answer t = by (unfit ks xs ys zs) (short (needs (length ks)) (lengths t))
-        where
-          by : (u v : Bool) → tested u v t .0 ≡ cond u 2 (cond v 1 0)
-          by true v = refl
-          by false true = refl
-          by false false = refl
+  outcome-answer t t′ e = ap (whole-answer ks xs ys zs) e

@@ -14,7 +14,7 @@ use Rattle.meaning.proofs.Maps.{same?, put-other, put-at}
 use Rattle.layout.specs.declared.Counts.{Counts}
 use Rattle.layout.specs.Cells.{Table, blank, base, Holds, pile}
 use Rattle.layout.specs.Layout.{task-value, task-block, work-sizes, work-tables, Stacks}
-use Rattle.layout.specs.Counts.{one-call, call-less, one-result, results-less}
+use Rattle.layout.specs.Counts.{one-call, call-less, one-result}
 use Rattle.layout.proofs.Cells.{below?, store}
 
 -- ---- one pile
@@ -107,16 +107,4 @@ module _ (l : List ℕ) (c : Counts) (ts : List Task) (rs : List ℕ) where
           n (task-block q) (map task-block ts) block-height room refl (omega arith);
       calls = omega (arith, s .calls);
       results = s .results;
-    }
-
-  -- the result x on top, at height n
-  module _ (x : ℕ) (s : Stacks l c ts (x ∷ rs)) (n : ℕ) (e : n ≡ length rs) (room : n < result-room limits) where
-    pub top-result : getD l (base work-sizes 2 + n) 0 ≡ x
-    top-result = pile-top work-sizes l (work-tables ts (x ∷ rs)) 2 (s .cells) n x rs e room refl
-
-    pub stacks-unresult : Stacks (set l (base work-sizes 2 + n) 0) (results-less 1 c) ts rs
-    stacks-unresult = record {
-      cells = pile-pop work-sizes l (work-tables ts (x ∷ rs)) 2 (s .cells) n x rs e room refl (omega arith);
-      calls = s .calls;
-      results = omega (arith, s .results);
     }

@@ -1,4 +1,4 @@
--- Where each table starts at document 01's limits, as numbers.
+-- Where each table starts at the limits of docs/RULES.md, as numbers.
 -- Assumes nothing.
 use Prim.Native.Nat.{ℕ, suc}
 use mathlib.Core.Path.{_≡_, refl}

@@ -1,20 +1,32 @@
--- What a session does to all that it is lent.
+-- What a session answers, and what it does to all that it is lent.
 -- Assumes nothing.
 use Prim.Native.Nat.{ℕ}
+use mathlib.Core.Path.{_≡_}
 use mathlib.Core.List.{List, [], _++_, map}
 use lib.ListN.{length, take, drop}
-use Rattle.definition.specs.Base.{if_then_else_}
+use Rattle.definition.specs.Base.{_=?_, if_then_else_}
 use Rattle.definition.specs.Session.{State, session}
-use Rattle.definition.specs.Whole.{calls, Lengths, needs, short, unfit}
+use Rattle.definition.specs.Whole.{calls, Lengths, needs, whole-answer}
 use Rattle.layout.specs.Layout.{render-graph, render-form, render-work}
 
--- the lists that a session changes, and their lengths
+-- the lists that a session changes
 pub record Lent : Type 0 where
   pub codes : List ℕ
   pub numbers : List ℕ
   pub graph : List ℕ
   pub form : List ℕ
   pub work : List ℕ
+
+abbrev pub lent : List ℕ → List ℕ → List ℕ → List ℕ → List ℕ → Lent
+lent codes numbers graph form work = record { codes = codes; numbers = numbers; graph = graph; form = form; work = work }
+
+-- t and u are the same, list by list
+pub record Same-lists (t u : Lent) : Type 0 where
+  pub codes : t .codes ≡ u .codes
+  pub numbers : t .numbers ≡ u .numbers
+  pub graph : t .graph ≡ u .graph
+  pub form : t .form ≡ u .form
+  pub work : t .work ≡ u .work
 
 abbrev pub lengths : Lent → Lengths
 lengths t = record { codes = length (t .codes); numbers = length (t .numbers); graph = length (t .graph); form = length (t .form); work = length (t .work) }
@@ -57,9 +69,9 @@ followed-by t u = record {
   work = t .work ++ u .work;
 }
 
+-- The session's answer, and what the lists hold after it: where the answer is not 0, what they held before; else the answers and tables of its calls,
+-- followed by what stood past the need.
 abbrev pub outcome : List ℕ → List ℕ → List ℕ → List ℕ → Lent → ℕ × Lent
 outcome ks xs ys zs t =
-    let m = needs (length ks) in
-    if unfit ks xs ys zs then (2, t) else
-    if short m (lengths t) then (1, t) else
-    (0, followed-by (shown (session (calls ks xs ys zs))) (past m t))
+    let answer = whole-answer ks xs ys zs (lengths t) in
+    (answer, if answer =? 0 then followed-by (shown (session (calls ks xs ys zs))) (past (needs (length ks)) t) else t)

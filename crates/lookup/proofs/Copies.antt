@@ -11,13 +11,15 @@ use native.Mathlib.Omega.{arith}
 use native.Mathlib.Nat.{le-trans, not-suc-le-zero, le-of-suc-le-suc}
 use lib.Dec.{eqb}
 use lib.ListN.{length, getD}
+use Rattle.entity.specs.declared.Block.{Block}
+use Rattle.entity.specs.declared.OptionBlock.{OptionBlock}
 use Rattle.entity.specs.Limits.{limits}
+use Rattle.entity.specs.Options.{block-of}
 use Rattle.definition.specs.Base.{put₂}
 use Rattle.definition.specs.Form.{Graph, Form, with-entry}
 use Rattle.definition.specs.Read.{mark, mark-one, single}
-use Rattle.definition.specs.Tables.{plus-one}
 use Rattle.meaning.specs.Path.{In}
-use Rattle.meaning.proofs.Maps.{same?, eqb-same, eqb-diff, put₂-at, put₂-other, here?}
+use Rattle.meaning.proofs.Maps.{same?, eqb-same, eqb-diff, put₂-at, put₂-other, here?, some-none}
 use Rattle.meaning.proofs.Reading.{only-is}
 use Rattle.layout.specs.Cells.{base}
 use Rattle.layout.specs.Layout.{graph-sizes, pred-row}
@@ -50,12 +52,12 @@ mark-first v x b (c ∷ bs) s =
 
 -- ---- the way
 
--- the single predecessor plus one, 0 for none, as the cells have it
-unfoldable pub jump : List ℕ → ℕ → ℕ
-jump gl b = cond (not (eqb (getD gl (base graph-sizes 3 + b) 0) 0)) (cond (eqb (getD gl (preds-start b) 0) 1) (getD gl (preds-start b + 1 + 0) 0 + 1) 0) 0
+-- the single predecessor, as the cells have it
+unfoldable pub jump : List ℕ → ℕ → Option ℕ
+jump gl b = cond (not (eqb (getD gl (base graph-sizes 3 + b) 0) 0)) (cond (eqb (getD gl (preds-start b) 0) 1) (some (getD gl (preds-start b + 1 + 0) 0)) none) none
 
 module _ {gl : List ℕ} {g : Graph} (h : Seen gl g) (b : ℕ) (lb : b < limits .blocks) where
-  jump-is : jump gl b ≡ plus-one (single g b)
+  jump-is : jump gl b ≡ single g b
   unfolding jump
   jump-is = rw (mark-is (getD gl (base graph-sizes 3 + b) 0) (g .sealed b) (sealed-cell h b lb), count, first) (by (g .sealed b) refl (same? (length (g .preds b)) 1))
     where
@@ -66,31 +68,35 @@ module _ {gl : List ℕ} {g : Graph} (h : Seen gl g) (b : ℕ) (lb : b < limits 
       first = row-entry gl (preds-start b) pred-row (g .preds b) (preds-row h b lb refl) 0 (omega arith)
 
       by : (z : Bool) → g .sealed b ≡ z → (length (g .preds b) ≡ 1) ⊎ (length (g .preds b) ≡ 1 → ⊥)
-          → cond z (cond (eqb (length (g .preds b)) 1) (getD (g .preds b) 0 0 + 1) 0) 0 ≡ plus-one (single g b)
+          → cond z (cond (eqb (length (g .preds b)) 1) (some (getD (g .preds b) 0 0)) none) none ≡ single g b
       by false e n = single-open g b e
       by true e (inl n) = rw (ap (λ (k : ℕ). eqb k 1) n) (single-one g b (getD (g .preds b) 0 0) e n refl)
       by true e (inr n) = rw (eqb-diff (length (g .preds b)) 1 n) (single-many g b n)
 
+-- one step more than from there on
+abbrev pub step-more : (ℕ → ℕ) → Option ℕ → ℕ
+step-more f none = 0
+step-more f (some p) = suc (f p)
+
 -- how far `to` is from b, where it is at most k steps
 abbrev pub far : List ℕ → ℕ → ℕ → ℕ → ℕ
 far gl to zero b = 0
-far gl to (suc k) b = cond (eqb b to) 0 (suc (far gl to k (jump gl b - 1)))
+far gl to (suc k) b = cond (eqb b to) 0 (step-more (far gl to k) (jump gl b))
 
 module _ {gl : List ℕ} {g : Graph} (h : Seen gl g) where
   -- a block with a single predecessor is one
   chain-low : (b p : ℕ) → single g b ≡ some p → b < limits .blocks
   chain-low b p e = le-trans (h .bounds .shut b (only-is (g .sealed b) (g .preds b) p e .0)) (h .bounds .few)
 
-  chain-jump : (b p : ℕ) → single g b ≡ some p → jump gl b ≡ suc p
-  chain-jump b p e = jump-is h b (chain-low b p e) ∙ ap plus-one e
+  chain-jump : (b p : ℕ) → single g b ≡ some p → jump gl b ≡ some p
+  chain-jump b p e = jump-is h b (chain-low b p e) ∙ e
 
   chain-far : (k : ℕ) {to b : ℕ} {bs : List ℕ} → Chain g to bs b → length bs ≤ k → far gl to k b ≡ length bs
   chain-far zero there le = refl
   chain-far zero (back n e r) le = absurd (not-suc-le-zero le)
   chain-far (suc k) {to} there le = rw (eqb-same to)
   chain-far (suc k) {to} (back {b} {p} n e r) le =
-      let f : jump gl b - 1 ≡ p = omega (arith, chain-jump b p e) in
-      rw (eqb-diff b to n, f) (ap suc (chain-far k r (le-of-suc-le-suc le)))
+      rw (eqb-diff b to n, chain-jump b p e) (ap suc (chain-far k r (le-of-suc-le-suc le)))
 
 -- one step of the way
 record Step (g : Graph) (to b : ℕ) (bs : List ℕ) : Type 0 where
@@ -145,39 +151,38 @@ module _ {gl l₀ : List ℕ} {to v x b₀ : ℕ} where
       few : suc (length (u .rest)) ≤ limits .blocks
       few = rw (u .all) at (k .few)
 
-      module _ {q : ℕ} (one : (g : Graph) → Seen gl g → q ≡ plus-one (single g b)) where
-        next : q ≡ suc (u .p)
-        next = one g (h .seen) ∙ ap plus-one (u .one)
+      -- the single predecessor is there
+      pub copy-some : {q : OptionBlock} → q ≡ OptionBlock.None → ((g : Graph) → Seen gl g → block-of q ≡ single g b) → ⊥
+      copy-some e one = some-none (one g (h .seen) ∙ u .one) (ap block-of e)
 
-        pub copy-some : 1 ≤ q
-        copy-some = omega (arith, next)
+      module _ {q : OptionBlock} {p : Block} (there : q ≡ OptionBlock.Some p) (one : (g : Graph) → Seen gl g → block-of q ≡ single g b) where
+        next : u .p ≡ p .0
+        next = cc (one g (h .seen), u .one, ap block-of there)
 
-        pub copy-falls : far gl to (limits .blocks) (q - 1) < far gl to (limits .blocks) b
-        copy-falls =
-            let e : u .p ≡ q - 1 = omega (arith, next) in
-            omega (
-              arith,
-              chain-far (h .seen) (limits .blocks) (k .chain) (k .few),
-              ap length (u .all),
-              subst (λ (i : ℕ). far gl to (limits .blocks) i ≡ length (u .rest)) e (chain-far (h .seen) (limits .blocks) (u .chain) (omega (arith, few))),
-            )
+        pub copy-falls : far gl to (limits .blocks) (p .0) < far gl to (limits .blocks) b
+        copy-falls = omega (
+          arith,
+          chain-far (h .seen) (limits .blocks) (k .chain) (k .few),
+          ap length (u .all),
+          subst (λ (i : ℕ). far gl to (limits .blocks) i ≡ length (u .rest)) next (chain-far (h .seen) (limits .blocks) (u .chain) (omega (arith, few))),
+        )
 
-        copies : {l₁ : List ℕ} → Recorded l l₁ v b x → Copying g to v x s bs l₁ (q - 1)
+        copies : {l₁ : List ℕ} → Recorded l l₁ v b x → Copying g to v x s bs l₁ (p .0)
         copies R =
-            let e : u .p ≡ q - 1 = omega (arith, next) in
             let bare : (d : ℕ) → In d (b ∷ u .rest) → k .now .own v d ≡ none = subst (λ (r : List ℕ). (d : ℕ) → In d r → k .now .own v d ≡ none) (u .all) (k .bare) in
             record {
               now = mark-one v x b (k .now);
               rest = u .rest;
-              chain = subst (λ (i : ℕ). Chain g to (u .rest) i) e (u .chain);
+              chain = subst (λ (i : ℕ). Chain g to (u .rest) i) next (u .chain);
               few = omega (arith, few);
               bare = λ d i. bare d (inr i);
               cells = R .entry (k .now) copy-has (bare b (inl refl));
               same = mark-first v x b (u .rest) (k .now) ∙ ap (λ (r : List ℕ). mark v x r (k .now)) (sym (u .all)) ∙ k .same;
             }
 
-    pub copy-next : {q : ℕ} → ((g : Graph) → Seen gl g → q ≡ plus-one (single g b)) → {l₁ : List ℕ} → Recorded l l₁ v b x → Copied gl l₀ to v x b₀ l₁ (q - 1)
-    copy-next one R g s bs h = copies h one R
+    pub copy-next : {q : OptionBlock} {p : Block} → q ≡ OptionBlock.Some p → ((g : Graph) → Seen gl g → block-of q ≡ single g b)
+        → {l₁ : List ℕ} → Recorded l l₁ v b x → Copied gl l₀ to v x b₀ l₁ (p .0)
+    copy-next e one R g s bs h = copies h e one R
 
   pub copy-end : {l : List ℕ} {b : ℕ} → b ≡ to → Copied gl l₀ to v x b₀ l b → (g : Graph) (s : Form) (bs : List ℕ) → Can-copy gl l₀ v b₀ to g s bs → Cells l (mark v x bs s)
   copy-end {l} e C g s bs h =

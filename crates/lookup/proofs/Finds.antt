@@ -8,7 +8,10 @@ use mathlib.Core.Option.{Option, none, some}
 use mathlib.Core.List.{List, [], _∷_}
 use native.Mathlib.Omega.{arith}
 use native.Mathlib.Nat.{le-trans}
+use Rattle.entity.specs.declared.OptionValue.{OptionValue}
+use Rattle.entity.specs.declared.Value.{Value}
 use Rattle.entity.specs.Limits.{limits, value-room}
+use Rattle.entity.specs.Options.{value-of}
 use Rattle.definition.specs.Base.{_∷ʳ_}
 use Rattle.definition.specs.Form.{Graph, Form, param, def}
 use Rattle.definition.specs.Read.{make, set-params, mark-one, new-param, wait}
@@ -25,7 +28,6 @@ use Rattle.lookup.specs.declared.Stop.{Stop}
 use Rattle.lookup.specs.declared.Found.{Found}
 use Rattle.lookup.specs.Walk.{Can-walk, whole-walk, Stops}
 use Rattle.lookup.specs.Find.{Can-begin, Open, Can-use, Can-find, found, Finds}
-use Rattle.lookup.proofs.Walks.{none-of, some-of}
 
 module _ {gl fl wl : List ℕ} {c : Counts} {v ty b : ℕ} {g : Graph} {s : Form} {ts : List Task} {rs : List ℕ} where
   module _ (h : Can-use gl fl wl c v ty b g s ts rs) where
@@ -53,24 +55,24 @@ module _ {gl fl wl : List ℕ} {c : Counts} {v ty b : ℕ} {g : Graph} {s : Form
       block-low = le-trans (subst (λ (k : ℕ). k < g .blocks) (sym (S .block)) (walks .low)) (H .seen .bounds .few)
 
       -- a definition was met
-      pub finds-met : (stop .value ≡ 0 → ⊥) → {wl₁ : List ℕ} {r : Found} → r .1 .0 ≡ blk → r .0 .0 ≡ stop .value - 1
-          → (r .2 ≡ one-result c) × ((ts : List Task) → (rs : List ℕ) → Can-answer wl c ts rs → Stacks wl₁ (one-result c) ts ((stop .value - 1) ∷ rs))
+      pub finds-met : {y : Value} → stop .value ≡ OptionValue.Some y → {wl₁ : List ℕ} {r : Found} → r .1 .0 ≡ blk → r .0 .0 ≡ y .0
+          → (r .2 ≡ one-result c) × ((ts : List Task) → (rs : List ℕ) → Can-answer wl c ts rs → Stacks wl₁ (one-result c) ts (y .0 ∷ rs))
           → Finds fl wl₁ (c .call) r v b g s ts rs
-      finds-met d {wl₁} {r} ef ev P =
-          let m : whole-walk g v b s .met ≡ some (stop .value - 1) = some-of (whole-walk g v b s .met) (stop .value) (S .value) d in
+      finds-met {y} e {wl₁} {r} ef ev P =
+          let m : whole-walk g v b s .met ≡ some (y .0) = sym (S .value) ∙ ap value-of e in
           record {
             from = ef ∙ S .block;
             val = ev ∙ ap (found s) (sym m);
             call = ap (λ (k : Counts). k .call) (P .0);
             shown = subst (λ (o : Option ℕ). Shown fl wl₁ (r .2) (find g v ts rs s [] (whole-walk g v b s .end) o)) (sym m)
-                (subst (λ (k : Counts). Shown fl wl₁ k (conf ts ((stop .value - 1) ∷ rs) s)) (sym (P .0))
+                (subst (λ (k : Counts). Shown fl wl₁ k (conf ts (y .0 ∷ rs) s)) (sym (P .0))
                 (record { form = record { cells = H .shows .cells; next = H .shows .next }; work = P .1 ts rs (answer-can H) }));
           }
 
       -- nothing was met
-      module _ (z : stop .value ≡ 0) where
+      module _ (z : stop .value ≡ OptionValue.None) where
         none-met : whole-walk g v b s .met ≡ none
-        none-met = none-of (whole-walk g v b s .met) (sym z ∙ S .value)
+        none-met = sym (S .value) ∙ ap value-of z
 
         lacks-there : def s v blk ≡ none
         lacks-there = subst (λ (k : ℕ). def s v k ≡ none) (sym (S .block)) (walks .unmet none-met)

@@ -11,11 +11,13 @@ use native.Mathlib.Omega.{arith}
 use native.Mathlib.Nat.{le-trans}
 use lib.Dec.{eqb}
 use lib.ListN.{length}
+use Rattle.entity.specs.declared.OptionValue.{OptionValue}
+use Rattle.entity.specs.declared.Value.{Value}
 use Rattle.entity.specs.Limits.{limits, value-room}
+use Rattle.entity.specs.Options.{value-of}
 use Rattle.definition.specs.Base.{before}
 use Rattle.definition.specs.Form.{Graph, Form, def}
 use Rattle.definition.specs.Read.{Walk, mark, new-param}
-use Rattle.definition.specs.Tables.{plus-one}
 use Rattle.meaning.specs.Path.{In}
 use Rattle.meaning.specs.Machine.{Task, Conf, conf, open-param, find, visit}
 use Rattle.meaning.proofs.Maps.{same?, eqb-same, eqb-diff, or-none, some-none}
@@ -30,7 +32,6 @@ use Rattle.work.specs.Work.{Can-answer}
 use Rattle.lookup.specs.declared.Found.{Found}
 use Rattle.lookup.specs.Walk.{whole-walk, Chain, there, back, Can-copy}
 use Rattle.lookup.specs.Find.{Can-use, Can-find, found, Finds, Visits}
-use Rattle.lookup.proofs.Walks.{none-of, some-of}
 use Rattle.lookup.proofs.Finds.{var-low, answer-can, walks}
 
 -- ---- the blocks before a meeting
@@ -92,72 +93,71 @@ module _ {gl fl wl : List ℕ} {c : Counts} {v ty b : ℕ} {g : Graph} {s : Form
   pub has-def : Has-def fl v b s
   has-def = record { cells = h .shows .cells; var = var-low h; known = le-trans (h .known) (h .seen .bounds .few) }
 
-  module _ {x : ℕ} (reads : (s : Form) → Has-def fl v b s → x ≡ plus-one (def s v b)) where
-    pub visits-known : (x ≡ 0 → ⊥) → {wl₁ : List ℕ} {r : Counts}
-        → (r ≡ one-result c) × ((ts : List Task) → (rs : List ℕ) → Can-answer wl c ts rs → Stacks wl₁ (one-result c) ts ((x - 1) ∷ rs))
-        → Visits fl wl₁ (c .call) r v b g s ts rs
-    visits-known d {wl₁} {r} P =
-        let m : def s v b ≡ some (x - 1) = some-of (def s v b) x (reads s has-def) d in
-        record {
-          call = ap (λ (k : Counts). k .call) (P .0);
-          shown = subst (λ (o : Option ℕ). Shown fl wl₁ r (visit g v b ts rs s o)) (sym m)
-              (subst (λ (k : Counts). Shown fl wl₁ k (conf ts ((x - 1) ∷ rs) s)) (sym (P .0))
-              (record { form = record { cells = h .shows .cells; next = h .shows .next }; work = P .1 ts rs (answer-can h) }));
-        }
+  pub visits-known : {x : OptionValue} {y : Value} → x ≡ OptionValue.Some y → ((s : Form) → Has-def fl v b s → value-of x ≡ def s v b) → {wl₁ : List ℕ} {r : Counts}
+      → (r ≡ one-result c) × ((ts : List Task) → (rs : List ℕ) → Can-answer wl c ts rs → Stacks wl₁ (one-result c) ts (y .0 ∷ rs))
+      → Visits fl wl₁ (c .call) r v b g s ts rs
+  visits-known {y = y} e reads {wl₁} {r} P =
+      let m : def s v b ≡ some (y .0) = sym (reads s has-def) ∙ ap value-of e in
+      record {
+        call = ap (λ (k : Counts). k .call) (P .0);
+        shown = subst (λ (o : Option ℕ). Shown fl wl₁ r (visit g v b ts rs s o)) (sym m)
+            (subst (λ (k : Counts). Shown fl wl₁ k (conf ts (y .0 ∷ rs) s)) (sym (P .0))
+            (record { form = record { cells = h .shows .cells; next = h .shows .next }; work = P .1 ts rs (answer-can h) }));
+      }
 
-    module _ (z : x ≡ 0) where
-      lacks-here : def s v b ≡ none
-      lacks-here = none-of (def s v b) (sym z ∙ reads s has-def)
+  module _ {x : OptionValue} (z : x ≡ OptionValue.None) (reads : (s : Form) → Has-def fl v b s → value-of x ≡ def s v b) where
+    lacks-here : def s v b ≡ none
+    lacks-here = sym (reads s has-def) ∙ ap value-of z
 
-      pub find-can : Can-find gl fl wl c v ty b g s ts rs
-      find-can = record { asks = h; lacks = lacks-here }
+    pub find-can : Can-find gl fl wl c v ty b g s ts rs
+    find-can = record { asks = h; lacks = lacks-here }
 
-      abbrev W : Walk
-      W = whole-walk g v b s
+    abbrev W : Walk
+    W = whole-walk g v b s
 
-      abbrev K : Conf
-      K = find g v ts rs s [] (W .end) (W .met)
+    abbrev K : Conf
+    K = find g v ts rs s [] (W .end) (W .met)
 
-      abbrev way : List ℕ
-      way = before (W .end) (W .passed)
+    abbrev way : List ℕ
+    way = before (W .end) (W .passed)
 
-      U : Walked g v s b (whole-walk g v b s)
-      U = walks find-can
+    U : Walked g v s b (whole-walk g v b s)
+    U = walks find-can
 
-      -- each block passed is one, and lacks v; they are no more than there are
-      room : (length (W .passed) ≤ g .blocks) × ((d : ℕ) → In d (W .passed) → (d < g .blocks) × (def s v d ≡ none)) × (W .end < g .blocks)
-      room = walk-room g (h .seen .sound) v s b (h .known) lacks-here (suc (g .blocks))
+    -- each block passed is one, and lacks v; they are no more than there are
+    room : (length (W .passed) ≤ g .blocks) × ((d : ℕ) → In d (W .passed) → (d < g .blocks) × (def s v d ≡ none)) × (W .end < g .blocks)
+    room = walk-room g (h .seen .sound) v s b (h .known) lacks-here (suc (g .blocks))
 
-      module _ {fl₁ wl₁ : List ℕ} {f : Found} (F : Finds fl₁ wl₁ (c .call) f v b g s ts rs) where
-        pub copy-can : Can-copy gl fl₁ v b (f .1 .0) g (find g v ts rs s [] (whole-walk g v b s .end) (whole-walk g v b s .met) .form) (before (whole-walk g v b s .end) (whole-walk g v b s .passed))
-        copy-can = record {
-          seen = h .seen;
-          cells = F .shown .form .cells;
-          var = var-low h;
-          chain = subst (λ (k : ℕ). Chain g k way b) (sym (F .from)) (trail-chain g v s (W .passed) b (W .end) (U .trail));
-          few = omega (arith, before-length (W .end) (W .passed), room .0, h .seen .bounds .few);
-          bare = λ d i. find-own g v ts rs s (W .end) (W .met) v d ∙ or-none (s .own v d) (s .entry v d) (room .1 d (before-in (W .end) (W .passed) d i) .1) .0;
-        }
+    module _ {fl₁ wl₁ : List ℕ} {f : Found} (F : Finds fl₁ wl₁ (c .call) f v b g s ts rs) where
+      pub copy-can : Can-copy gl fl₁ v b (f .1 .0) g (find g v ts rs s [] (whole-walk g v b s .end) (whole-walk g v b s .met) .form) (before (whole-walk g v b s .end) (whole-walk g v b s .passed))
+      copy-can = record {
+        seen = h .seen;
+        cells = F .shown .form .cells;
+        var = var-low h;
+        chain = subst (λ (k : ℕ). Chain g k way b) (sym (F .from)) (trail-chain g v s (W .passed) b (W .end) (U .trail));
+        few = omega (arith, before-length (W .end) (W .passed), room .0, h .seen .bounds .few);
+        bare = λ d i. find-own g v ts rs s (W .end) (W .met) v d ∙ or-none (s .own v d) (s .entry v d) (room .1 d (before-in (W .end) (W .passed) d i) .1) .0;
+      }
 
-        pub val-small : f .0 .0 < value-room limits
-        val-small = subst (λ (k : ℕ). k < value-room limits) (sym (F .val)) (by (W .met) (U .met) (U .unmet))
-          where
-            by : (m : Option ℕ) → ((x : ℕ) → m ≡ some x → def s v (W .end) ≡ some x) → (m ≡ none → def s v (W .end) ≡ none) → found s m < value-room limits
-            by (some x) y n = le-trans (h .ready .defs v (W .end) x (y x refl)) (h .ready .few)
-            by none y n = h .ready .opens (W .end) (U .low) (n refl) .next
+      pub val-small : f .0 .0 < value-room limits
+      val-small = subst (λ (k : ℕ). k < value-room limits) (sym (F .val)) (by (W .met) (U .met) (U .unmet))
+        where
+          by : (m : Option ℕ) → ((x : ℕ) → m ≡ some x → def s v (W .end) ≡ some x) → (m ≡ none → def s v (W .end) ≡ none) → found s m < value-room limits
+          by (some x) y n = le-trans (h .ready .defs v (W .end) x (y x refl)) (h .ready .few)
+          by none y n = h .ready .opens (W .end) (U .low) (n refl) .next
 
-        pub visits-found : {fl₂ : List ℕ}
-            → ((g : Graph) → (s : Form) → (bs : List ℕ) → Can-copy gl fl₁ v b (f .1 .0) g s bs → Cells fl₂ (mark v (f .0 .0) bs s))
-            → Visits fl₂ wl₁ (c .call) (f .2) v b g s ts rs
-        visits-found {fl₂} C =
-            let whole = find-marked g v ts rs s (W .end) (W .passed) (W .met)
-            (λ x e. before-all (W .end) (W .passed) (λ i. some-none (U .met x e) (room .1 (W .end) i .1))) K refl in
-            record {
-              call = F .call;
-              shown = subst (λ (o : Option ℕ). Shown fl₂ wl₁ (f .2) (visit g v b ts rs s o)) (sym lacks-here)
-                  (subst (λ (k : Conf). Shown fl₂ wl₁ (f .2) k) (sym whole)
-                  (record {
-                    form = record { cells = subst (λ (x : ℕ). Cells fl₂ (mark v x way (K .form))) (F .val) (C g (K .form) way copy-can); next = F .shown .form .next ∙ sym (ap (λ (k : Form). k .next) (mark-is v (found s (W .met)) way (K .form))) };
-                    work = F .shown .work;
-                  }));
-            }
+      pub visits-found : {fl₂ : List ℕ}
+          → ((g : Graph) → (s : Form) → (bs : List ℕ) → Can-copy gl fl₁ v b (f .1 .0) g s bs → Cells fl₂ (mark v (f .0 .0) bs s))
+          → Visits fl₂ wl₁ (c .call) (f .2) v b g s ts rs
+      visits-found {fl₂} C =
+          let whole = find-marked g v ts rs s (W .end) (W .passed) (W .met)
+          (λ x e. before-all (W .end) (W .passed) (λ i. some-none (U .met x e) (room .1 (W .end) i .1))) K refl in
+          record {
+            call = F .call;
+            shown = subst (λ (o : Option ℕ). Shown fl₂ wl₁ (f .2) (visit g v b ts rs s o)) (sym lacks-here)
+                (subst (λ (k : Conf). Shown fl₂ wl₁ (f .2) k) (sym whole)
+                (record {
+                  form = record { cells = subst (λ (x : ℕ). Cells fl₂ (mark v x way (K .form))) (F .val) (C g (K .form) way copy-can); next = F .shown .form .next ∙ sym (ap (λ (k : Form). k .next) (mark-is v (found s (W .met)) way (K .form))) };
+                  work = F .shown .work;
+                }));
+          }

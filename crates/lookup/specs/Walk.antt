@@ -6,9 +6,9 @@ use mathlib.Core.Option.{none, some}
 use mathlib.Core.List.{List, [], _∷_}
 use lib.ListN.{length}
 use Rattle.entity.specs.Limits.{limits}
+use Rattle.entity.specs.Options.{value-of}
 use Rattle.definition.specs.Form.{Graph, Form}
 use Rattle.definition.specs.Read.{Walk, walk, single}
-use Rattle.definition.specs.Tables.{plus-one}
 use Rattle.meaning.specs.Path.{In}
 use Rattle.graph.specs.Seen.{Seen}
 use Rattle.form.specs.Can.{Cells}
@@ -28,10 +28,10 @@ pub record Can-walk (gl fl : List ℕ) (v b : ℕ) (g : Graph) (s : Form) : Type
 abbrev pub whole-walk : Graph → ℕ → ℕ → Form → Walk
 whole-walk g v b s = walk (suc (g .blocks)) g s v [] b
 
--- where a walk ends, and the definition that it met there, plus one
+-- where a walk ends, and the definition that it met there
 pub record Stops (r : Stop) (w : Walk) : Type 0 where
   pub block : r .block .0 ≡ w .end
-  pub value : r .value ≡ plus-one (w .met)
+  pub value : value-of (r .value) ≡ w .met
 
 -- the blocks from b on up to the first meeting with `to`, which is left out
 pub data Chain (g : Graph) (to : ℕ) : List ℕ → ℕ → Type 0 where

@@ -11,15 +11,17 @@ ghost use Rattle.form.specs.Can.{Cells};
 ghost use Rattle.lookup.specs.Walk.{Walk-with, Can-walk, whole-walk, Stops, Copy-with, Can-copy};
 ghost use Rattle.lookup.specs.Find.{All-with, Can-use, Visits, Can-find, Finds, Begin-with, Can-begin};
 use entity::Block;
+use entity::OptionBlock;
+use entity::OptionValue;
 use entity::Value;
 use entity::Variable;
 use layout::Call;
 use layout::Counts;
 
-// Where a walk stopped, and the definition that it met there, plus one; 0 for none.
+// Where a walk stopped, and the definition that it met there.
 pub struct Stop {
     pub block: Block,
-    pub value: u32,
+    pub value: OptionValue,
 }
 
 // The definition found, the block that it comes from, and the counts after.
@@ -40,9 +42,9 @@ pub fn use_var_nonlocal(
         → Can-use (now (graph .entry)) (now (form .entry)) (now (work .entry)) c (var .0) ty (block .0) g s ts rs
         → Visits (now (form .exit)) (now (work .exit)) (c .call) r (var .0) (block .0) g s ts rs) ⌝ }
 {
-    let x = form::definition(form, var, block);
-    if x != 0 {
-        return work::push_result(work, c, Value(x - 1));
+    let here = form::definition(form, var, block);
+    if let OptionValue::Some(val) = here {
+        return work::push_result(work, c, val);
     }
     let f = find_var(graph, form, work, c, var, ty, block);
     let val = f.0;
@@ -61,11 +63,14 @@ fn copy_back(graph: &[u32], form: &mut [u32], var: Variable, block: Block, from:
         → Can-copy (now (graph .entry)) (now (form .entry)) (var .0) (block .0) (from .0) g s bs
         → Cells (now (form .exit)) (mark (var .0) (val .0) bs s)) ⌝ }
 {
-    let to = from.0;
-    let mut b = block.0;
-    while b != to {
-        form::record_def(form, var, Block(b), val);
-        b = graph::single_predecessor(graph, Block(b)) - 1;
+    let mut b = block;
+    while b.0 != from.0 {
+        form::record_def(form, var, b, val);
+        let single = graph::single_predecessor(graph, b);
+        let OptionBlock::Some(pred) = single else {
+            return;
+        };
+        b = pred;
     }
 }
 
@@ -76,29 +81,29 @@ fn walk(graph: &[u32], form: &[u32], var: Variable, block: Block) -> Stop
         → Stops r (whole-walk g (var .0) (block .0) s)) ⌝ }
 {
     let mut visited = [false; entity::BLOCKS as usize];
-    let mut b = block.0;
+    let mut b = block;
     loop {
-        let q = graph::single_predecessor(graph, Block(b));
-        if q == 0 {
+        let single = graph::single_predecessor(graph, b);
+        let OptionBlock::Some(pred) = single else {
             return Stop {
-                block: Block(b),
-                value: 0,
+                block: b,
+                value: OptionValue::None,
             };
-        }
-        let i = b as usize;
+        };
+        let i = b.0 as usize;
         if visited[i] {
             return Stop {
-                block: Block(b),
-                value: 0,
+                block: b,
+                value: OptionValue::None,
             };
         }
         visited[i] = true;
-        b = q - 1;
-        let x = form::definition(form, var, Block(b));
-        if x != 0 {
+        b = pred;
+        let there = form::definition(form, var, b);
+        if let OptionValue::Some(val) = there {
             return Stop {
-                block: Block(b),
-                value: x,
+                block: b,
+                value: OptionValue::Some(val),
             };
         }
     }
@@ -122,8 +127,8 @@ fn find_var(
 {
     let stop = walk(graph, form, var, block);
     let from = stop.block;
-    if stop.value != 0 {
-        let met = Value(stop.value - 1);
+    let value = stop.value;
+    if let OptionValue::Some(met) = value {
         let d = work::push_result(work, c, met);
         return Found(met, from, d);
     }

@@ -7,7 +7,7 @@ use Rattle.definition.specs.Session.{Call, session}
 use Rattle.definition.specs.Calls.{declare-var, define, use-var, seal, seal-all, blocks, sets, jumps}
 use Rattle.meaning.specs.Trace.{finds}
 
--- The swap, case J of document 01. Block 0 gives variables 0 and 1 their values; block 1 uses both, answers 2 and 3, gives each the other's answer, and goes
+-- The swap, case J of docs/RULES.md. Block 0 gives variables 0 and 1 their values; block 1 uses both, answers 2 and 3, gives each the other's answer, and goes
 -- round. Parameters take their arguments at once, so no value is lost.
 abbrev pub swap : List Call
 swap =

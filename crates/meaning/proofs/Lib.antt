@@ -19,6 +19,7 @@ pub mod Graphs
 pub mod Whole
 pub mod Along
 pub mod Demand
+pub mod Bits
 -- its suppositions: decided, met, needed
 pub mod Agree
 pub mod Against

@@ -1,31 +1,28 @@
 -- What the code of the machine needs at each turn: the turns lead where the run ends, each turn lowers a number, and there is room before
 -- each cell is written. Assumes nothing.
-pub use Rattle.meaning.proofs.Rooms.{resting}
 use Prim.Native.Nat.{ℕ, zero, suc, _<_, _≤_}
 use mathlib.Core.Path.{_≡_, refl, sym, ap, _∙_, subst}
-use mathlib.Core.Logic.{inl, inr}
 use mathlib.Core.Bool.{true}
-use mathlib.Core.Option.{none}
 use mathlib.Core.List.{List, [], _∷_}
 use lib.ListN.{length, getD}
 use native.Mathlib.Omega.{arith}
 use native.Mathlib.Nat.{le-trans}
-use Rattle.entity.specs.Limits.{value-room, call-room, limits, param-room, zero-room}
+use Rattle.entity.specs.Limits.{value-room, limits, param-room, zero-room}
 use Rattle.definition.specs.Base.{put}
-use Rattle.definition.specs.Form.{Graph, Form, def}
+use Rattle.definition.specs.Form.{Graph, Form}
 use Rattle.definition.specs.Session.{State}
-use Rattle.meaning.specs.Machine.{Task, look, finish, Conf, conf, turn, turns}
+use Rattle.meaning.specs.Machine.{Task, finish, Conf, conf, turn, turns}
 use Rattle.meaning.specs.Path.{In}
-use Rattle.meaning.proofs.Maps.{same?, put-same, put-other, put-at, or-none}
-use Rattle.meaning.proofs.Inv.{pending-par, Work}
+use Rattle.meaning.proofs.Maps.{put-same}
+use Rattle.meaning.proofs.Inv.{Work}
 use Rattle.meaning.proofs.Reading.{Sound}
 use Rattle.meaning.proofs.Machine.{Goes, there, on}
 use Rattle.meaning.proofs.Heights.{Within, Low, run-within}
 use Rattle.meaning.proofs.Fall.{left, turn-falls}
 use Rattle.meaning.proofs.Ranges.{Bounds}
-use Rattle.meaning.proofs.Load.{load-next, load-param}
-use Rattle.meaning.proofs.Mid.{at-work, finishes, Sane, top-param}
-use Rattle.meaning.proofs.Rooms.{Moment, waits-room, feed-room, new-param-room}
+use Rattle.meaning.proofs.Load.{load-next}
+use Rattle.meaning.proofs.Mid.{at-work, finishes, top-param}
+use Rattle.meaning.proofs.Rooms.{Moment, feed-room}
 use Rattle.meaning.proofs.Sure.{Sure}
 
 -- room for a made value
@@ -72,33 +69,13 @@ pub record Settles (g : Graph) (rs : List ℕ) (s : Form) (x b : ℕ) : Type 0 w
   pub zeros : length (s .zeros) < zero-room limits
   pub args : (p i : ℕ) → In p (g .preds b) → i < length (g .dests p) → getD (g .dests p) i 0 ≡ b → length (s .args p i) < param-room limits
 
--- every task on the stack names what is there
-abbrev pub Named : Graph → Form → List Task → Type 0
-Named g s [] = Unit {0}
-Named g s (look p ∷ ts) = (p < g .blocks) × Named g s ts
-Named g s (finish x b ∷ ts) = (x < s .next) × (b < g .blocks) × Named g s ts
-
 -- at one moment
 module _ (g : Graph) (G : Sound g) (B : Bounds g) (v : ℕ) (lv : v < length (g .types)) (later : Work) (k : ℕ) (rs : List ℕ)
     (s : Form) where
-  -- the number that falls, at most `call-room limits`
+  -- the number that falls
   pub falls : (t : Task) (ts : List Task) → Moment g v later k (conf (t ∷ ts) rs s)
       → left g v (turn g v (t ∷ ts) rs s) < left g v (conf (t ∷ ts) rs s)
   falls t ts m = turn-falls g G v t ts rs s (m .within .low)
-
-  pub at-most : (ts : List Task) → Moment g v later k (conf ts rs s) → left g v (conf ts rs s) ≤ call-room limits
-  at-most ts m = m .within .calls
-
-  -- before a parameter on c, where v has no definition
-  pub look-room : (p : ℕ) (ts : List Task) → Moment g v later k (conf (look p ∷ ts) rs s) → (c : ℕ) → c < g .blocks → def s v c ≡ none
-      → (p < g .blocks) × (s .next < value-room limits) × (length (s .params c) < param-room limits) × (length (s .pending c) < param-room limits)
-  look-room p ts m c lc lack =
-      let h = m .now .0 in
-      let op = at-work v ts later in
-      let a = load-param s (finishes ts k) v c (h .rest .load) (le-trans lv (B .vars)) (le-trans lc (B .few)) lack in
-      let q = new-param-room g op (finishes ts k) s (h .rest) v c lv (or-none (s .own v c) (s .entry v c) lack .1) in
-      let w = waits-room g op (finishes ts k) s (h .rest) c in
-      (h .sane .0, omega (arith, a .0), le-trans q (B .vars), omega (arith, w, q, B .vars))
 
   pub finish-room : (x b : ℕ) (ts : List Task) → Moment g v later k (conf (finish x b ∷ ts) rs s) → Settles g rs s x b
   finish-room x b ts m =
@@ -117,23 +94,3 @@ module _ (g : Graph) (G : Sound g) (B : Bounds g) (v : ℕ) (lv : v < length (g 
         args = λ p j ip lt q. le-trans
             (feed-room g (put b ((v, x) ∷ op b) op) (suc (finishes ts k)) s (h .rest) b v x (op b) (h .sane .0) (put-same b ((v, x) ∷ op b) op) p j ip lt q) (B .vars);
       }
-
-  abbrev work : List Task → ℕ → List (ℕ × ℕ)
-  work us = at-work v us later
-
-  all-named : (us : List Task) → Sane g us → ((x b : ℕ) → g .sealed b ≡ true → In (v, x) (work us b) → x < s .next) → Named g s us
-  all-named [] z f = tt
-  all-named (look p ∷ us) z f = (z .0, all-named us (z .1) f)
-  all-named (finish x b ∷ us) z f = (
-    f x b (z .0) (rw (put-same b ((v, x) ∷ work us b) (work us)) (inl refl)),
-    B .shut b (z .0),
-    all-named us (z .1) (λ y c q i. f y c q (elim (same? c b) [
-      | inl e ↦ rw (put-at b ((v, x) ∷ work us b) (work us) c e) (inr (rw e at i))
-      | inr n ↦ rw (put-other b ((v, x) ∷ work us b) (work us) c n) i
-    ])),
-  )
-
-  pub tasks-named : (ts : List Task) → Moment g v later k (conf ts rs s) → Named g s ts
-  tasks-named ts m =
-      let r = m .now .0 .rest in
-      all-named ts (m .now .0 .sane) (λ x b z i. r .inv .listed .pars b x (pending-par g ⊥ s (r .kp) (work ts) (r .inv) v b x (rw z i)) .below)

@@ -12,7 +12,6 @@ use Rattle.definition.specs.Read.{read, depth, set-pending, settle-pending}
 use Rattle.definition.specs.Session.{Call, State, session, mark-sealed, seal-form, Reply, no, ok, reply, after, step, run, empty}
 use Rattle.meaning.specs.Machine.{conf, schedule, visit, turns}
 use Rattle.meaning.specs.Rooms.{Rooms}
-use Rattle.meaning.specs.Stored.{Stored}
 use Rattle.meaning.specs.Path.{In}
 use Rattle.meaning.proofs.Maps.{put-same}
 use Rattle.meaning.proofs.Reading.{Sound}
@@ -22,7 +21,6 @@ use Rattle.meaning.proofs.Rest.{read-rest, seal-rest, mark-rest, some-r
 use Rattle.meaning.proofs.Mid.{Rest}
 use Rattle.meaning.proofs.Sure.{sure, Sure}
 use Rattle.meaning.proofs.Rooms.{rooms-of, Moment, moment-turn, use-moment, seal-moment, resting}
-use Rattle.meaning.proofs.Stored.{stored-of}
 
 pub record Steady (g : Graph) (s : Form) : Type 0 where
   pub sound : Sound g
@@ -39,16 +37,10 @@ module _ (g : Graph) (s : Form) (h : Steady g s) where
   pub steady-rooms : Rooms g s
   steady-rooms = rooms-of g (h .sound) (h .bounds) idle 0 s (h .rest)
 
-  pub steady-stored : Stored g s
-  steady-stored = stored-of g (h .sound) (h .bounds) idle 0 s (h .rest)
-
   -- a use
   module _ (v : ℕ) (lv : v < length (g .types)) (b : ℕ) (lb : b < g .blocks) where
     pub steady-use : Steady g (read (depth g) g v b s .1)
     steady-use = record { sound = h .sound; bounds = h .bounds; rest = read-rest g (h .sound) (h .bounds) v lv b s lb (h .rest) .0 }
-
-    pub use-below : read (depth g) g v b s .0 < read (depth g) g v b s .1 .next
-    use-below = read-rest g (h .sound) (h .bounds) v lv b s lb (h .rest) .1
 
     pub during-use : (n : ℕ) → Moment g v idle 0 (turns n g v (visit g v b [] [] s (def s v b)))
     during-use n = moment-turn g (h .sound) (h .bounds) v lv idle 0 (visit g v b [] [] s (def s v b)) n (use-moment g (h .sound) (h .bounds) v lv b s lb (h .rest))

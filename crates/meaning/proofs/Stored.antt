@@ -1,6 +1,5 @@
 -- Every number stored in a table is in range, after every list of calls and at every moment of a run, as ranges are kept; and a walk passes no block twice.
 -- Assumes nothing.
-pub use Rattle.meaning.proofs.Lists.{nil-of}
 use Prim.Native.Nat.{ℕ, zero, suc, _<_, _≤_}
 use mathlib.Core.Path.{_≡_, refl, sym, ap, _∙_, subst}
 use mathlib.Core.Logic.{inl, inr}
@@ -40,6 +39,7 @@ stored-of g G B op k s r = let h = r .inv in let R = r .ranged in record {
   branches = B .branches;
   sealed = B .shut;
   settled = R .still;
+  types = B .typed;
   targets = R .valued .closed;
   unused = h .aliased .fresh;
   info = λ x l. (R .valued .homes x l, R .valued .types x l);

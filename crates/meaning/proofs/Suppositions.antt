@@ -10,7 +10,7 @@ use lib.Dec.{eqb}
 use native.Mathlib.Omega.{arith}
 use Rattle.definition.specs.Base.{put}
 use Rattle.definition.specs.Session.{Call, Done, State, session}
-use Rattle.meaning.specs.Path.{Had, On-time, All-sealed, None-enters-0, All-declared, None-late, Own-values, In, Act, makes, gives, uses, acts, declares, defines, Supposed, Faithful, Fed}
+use Rattle.meaning.specs.Path.{Had, On-time, All-sealed, None-enters-0, All-declared, None-late, Own-values, In, Act, makes, gives, uses, acts, declares, defines, Supposed, Right}
 use Rattle.meaning.specs.Suppositions.{defines-none, on-time?, owned?, all-sealed?, none-enters-0?, all-declared?, none-late?, own-values?, supposed?}
 use Rattle.meaning.proofs.Agree.{fork}
 use Rattle.meaning.proofs.Maps.{same?, eqb-eq, put-same, put-at, put-other}
@@ -214,5 +214,5 @@ module _ (cs : List Call) where
 pub fork-meets : supposed? (session fork) ≡ true
 fork-meets = refl
 
-pub fork-right : ((W : Type 0) (null : ℕ → W) → Faithful W null (session fork)) × Fed (session fork)
+pub fork-right : Right (session fork)
 fork-right = demand-3 fork (supposed-sound fork fork-meets)

@@ -5,11 +5,13 @@ use mathlib.Core.Bool.{true}
 use mathlib.Core.List.{List}
 use mathlib.Core.Option.{some}
 use lib.ListN.{length, getD}
+use Rattle.entity.specs.Types.{zero-with}
 use Rattle.definition.specs.Session.{Call, session, seal-each, answered}
 use Rattle.definition.specs.Resolve.{Resolved, targets}
 use Rattle.definition.specs.Read.{resolve}
 use Rattle.definition.specs.Base.{_∷ʳ_}
-use Rattle.meaning.specs.Path.{Supposed, In, Faithful, Fed}
+use Rattle.meaning.specs.Path.{Supposed, In, Right}
+use Rattle.meaning.specs.Bits.{Faithful-bits, Zeros-typed}
 use Rattle.meaning.specs.Turns.{Scheduled}
 use Rattle.meaning.specs.Answers.{Answered}
 use Rattle.meaning.specs.Stored.{Stored}
@@ -23,6 +25,7 @@ use Rattle.meaning.proofs.Rooms.{fed-always}
 use Rattle.meaning.proofs.Steady.{calls-count, logged}
 use Rattle.meaning.proofs.Turns.{scheduled, scheduled-all}
 use Rattle.meaning.proofs.Demand.{demand-3}
+use Rattle.meaning.proofs.Bits.{zeros-typed}
 use Rattle.meaning.proofs.Answers.{answered-one}
 use Rattle.meaning.proofs.Holds.{holds}
 use Rattle.meaning.proofs.Sure.{sure}
@@ -33,9 +36,16 @@ use Rattle.meaning.proofs.Needed.{needed}
 
 -- On every path each use's answer, aliases resolved, holds what its variable last received, or zero; and every destination has an argument for each parameter
 -- of its block: where all is as `Supposed` lists.
-pub answers-hold : (cs : List Call) → Supposed (session cs)
-    → ((W : Type 0) (null : ℕ → W) → Faithful W null (session cs)) × Fed (session cs)
+pub answers-hold : (cs : List Call) → Supposed (session cs) → Right (session cs)
 answers-hold = demand-3
+
+-- The same by bits: each answer holds the bits that its variable last received, or those of its type's zero.
+pub answers-hold-by-bits : (cs : List Call) → Supposed (session cs) → Faithful-bits (session cs)
+answers-hold-by-bits cs S = answers-hold cs S .0 ℕ zero-with
+
+-- In every session each zero and each variable has a known type, and these are the bits of that type's zero.
+pub zeros-have-bits : (cs : List Call) → Zeros-typed (session cs)
+zeros-have-bits = zeros-typed
 
 -- Whether a session is as supposed is decided by looking at it.
 pub suppositions-decided : (cs : List Call)

@@ -1,4 +1,5 @@
 pub mod Path
+pub mod Bits
 pub mod Machine
 pub mod Rooms
 pub mod Stored

@@ -6,7 +6,7 @@ use mathlib.Core.Bool.{Bool, _&&_, _||_}
 use mathlib.Core.List.{List}
 use lib.Dec.{eqb}
 use Rattle.definition.specs.Session.{Call, State, session}
-use Rattle.meaning.specs.Path.{All-sealed, None-enters-0, All-declared, None-late, Own-values, Faithful, Fed}
+use Rattle.meaning.specs.Path.{All-sealed, None-enters-0, All-declared, None-late, Own-values, Right}
 use Rattle.meaning.specs.Suppositions.{all-sealed?, none-enters-0?, all-declared?, none-late?, own-values?}
 
 -- the suppositions, counted from 1, but the one at k
@@ -22,4 +22,4 @@ supposed-but? k t =
     (eqb k 1 || all-sealed? t) && (eqb k 2 || none-enters-0? t) && (eqb k 3 || all-declared? t) && (eqb k 4 || none-late? t) && (eqb k 5 || own-values? t)
 
 abbrev pub Demand-3-but : ℕ → Type 1
-Demand-3-but k = (cs : List Call) → Supposed-but k (session cs) → ((W : Type 0) (null : ℕ → W) → Faithful W null (session cs)) × Fed (session cs)
+Demand-3-but k = (cs : List Call) → Supposed-but k (session cs) → Right (session cs)

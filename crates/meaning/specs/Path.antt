@@ -140,7 +140,10 @@ module _ (W : Type 0) (null : ℕ → W) (t : State) where
 abbrev pub Fed : State → Type 0
 Fed t = (p i : ℕ) → i < length (t .graph .dests p) → length (t .form .args p i) ≡ length (t .form .params (getD (t .graph .dests p) i 0))
 
+-- what demand 3 says of a finished session, whatever words values hold
+abbrev pub Right : State → Type 1
+Right t = ((W : Type 0) (null : ℕ → W) → Faithful W null t) × Fed t
+
 -- Demand 3.
 abbrev pub Demand-3 : Type 1
-Demand-3 = (cs : List Call) → Supposed (session cs)
-    → ((W : Type 0) (null : ℕ → W) → Faithful W null (session cs)) × Fed (session cs)
+Demand-3 = (cs : List Call) → Supposed (session cs) → Right (session cs)

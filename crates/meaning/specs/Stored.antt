@@ -8,6 +8,7 @@ use lib.ListN.{length}
 use Rattle.entity.specs.Types.{type-count}
 use Rattle.definition.specs.Base.{Block, Variable, Value}
 use Rattle.definition.specs.Form.{Graph, Form}
+use Rattle.definition.specs.Read.{type-of}
 use Rattle.meaning.specs.Path.{In}
 
 -- nothing stands in the list twice
@@ -31,6 +32,8 @@ pub record Stored (g : Graph) (s : Form) : Type 0 where
   -- nothing waits in a sealed block
   pub sealed : (b : Block) → g .sealed b ≡ true → b < g .blocks
   pub settled : (b : Block) → g .sealed b ≡ true → s .pending b ≡ []
+  -- the types of the variables
+  pub types : (v : Variable) → v < length (g .types) → type-of g v < type-count
   -- values: their targets, what they are; past them nothing is an alias
   pub targets : (x : Value) → x < s .next → s .target x < s .next
   pub unused : (x : Value) → s .next ≤ x → s .target x ≡ x

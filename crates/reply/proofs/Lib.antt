@@ -1,3 +1,2 @@
 pub mod Asked
 pub mod Answered
-pub mod Session

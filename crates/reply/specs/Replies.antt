@@ -1,4 +1,4 @@
--- What a call answers and leaves, in the numbers of document 01, for each case of the definition's reply; and what every kind of call asks and promises.
+-- What a call answers and leaves, in the numbers of docs/RULES.md, for each case of the definition's reply; and what every kind of call asks and promises.
 -- Assumes nothing.
 use Prim.Native.Nat.{ℕ}
 use mathlib.Core.Path.{_≡_}

@@ -17,7 +17,7 @@ pub struct Reply {
     pub counts: Counts,
 }
 
-// Codes, as document 01 numbers them.
+// Codes, as docs/RULES.md numbers them.
 pub const FULL: u32 = 4;
 
 pub const SKIPS: u32 = 5;

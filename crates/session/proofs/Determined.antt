@@ -1,5 +1,5 @@
 -- The promise determines the answer and every lent cell, since it equates them with the outcome. So a refusal leaves all as it was, cells past the need
--- are kept, and what an accepted session leaves is what its calls mean: demand 3 holds of it.
+-- are kept, and the needed cells of an accepted session are what the session of its calls shows.
 -- Assumes nothing.
 use Prim.Native.Nat.{ℕ}
 use mathlib.Core.Path.{_≡_, sym, ap, _∙_}
@@ -7,13 +7,12 @@ use mathlib.Core.List.{List}
 use lib.ListN.{length}
 use Rattle.definition.specs.Session.{Call, session}
 use Rattle.definition.specs.Whole.{calls, needs}
-use Rattle.meaning.specs.Path.{Supposed, Faithful, Fed}
+use Rattle.meaning.specs.Path.{Supposed, Right}
 use Rattle.meaning.proofs.Theorems.{answers-hold}
-use Rattle.layout.specs.Outcome.{Lent, lengths, outcome, shown, first, past}
+use Rattle.layout.specs.Outcome.{Lent, lent, Same-lists, lengths, outcome, shown, first, past}
 use Rattle.layout.specs.Same.{Same-graph, Same-form}
 use Rattle.layout.proofs.Outcome.{outcome-answer, outcome-refused, outcome-past, outcome-first}
 use Rattle.layout.proofs.Same.{same-sessions}
-use Rattle.turns.specs.Turns.{lent, Same-lists}
 use Rattle.session.specs.Ends.{Ended}
 
 same-lent : (t u : Lent) → Same-lists t u → t ≡ u
@@ -47,22 +46,17 @@ module _ (ks xs ys zs : List ℕ) where
 
   -- What a host has after an accepted session.
   module _ {before after : Lent} (h : Ended ks xs ys zs before after 0) where
-    abbrev asked : List Call
-    asked = calls ks xs ys zs
-
-    -- the needed cells show the session of these calls
+    -- the needed cells are the answers and tables of the session of these calls
     pub cells-show : first (needs (length ks)) after ≡ shown (session (calls ks xs ys zs))
     cells-show = ap (first (needs (length ks))) (left h) ∙ outcome-first ks xs ys zs before (sym (h .answer))
 
-    -- and no other: calls whose session the cells show lead to the same tables
+    -- and of no session with other tables
     pub state-shown : (cs : List Call) → first (needs (length ks)) after ≡ shown (session cs)
         → Same-graph (session cs .graph) (session (calls ks xs ys zs) .graph) × Same-form (session cs .form) (session (calls ks xs ys zs) .form)
     state-shown cs e =
         let q = sym e ∙ cells-show in
-        same-sessions cs asked (ap (λ (t : Lent). t .graph) q) (ap (λ (t : Lent). t .form) q)
+        same-sessions cs (calls ks xs ys zs) (ap (λ (t : Lent). t .graph) q) (ap (λ (t : Lent). t .form) q)
 
-    -- Demand 3, of the tables that the cells show: on every path each use's answer holds what its variable last received, or zero; and every destination
-    -- has an argument for each parameter of its block.
-    pub shown-holds : (first (needs (length ks)) after ≡ shown (session (calls ks xs ys zs)))
-        × (Supposed (session (calls ks xs ys zs)) → ((W : Type 0) (null : ℕ → W) → Faithful W null (session (calls ks xs ys zs))) × Fed (session (calls ks xs ys zs)))
-    shown-holds = (cells-show, answers-hold asked)
+    -- So there is one session, that of these calls, of which two things hold: the needed cells show it, and demand 3 is true of it where it is as supposed.
+    pub accepted-right : let t = session (calls ks xs ys zs) in (first (needs (length ks)) after ≡ shown t) × (Supposed t → Right t)
+    accepted-right = (cells-show, answers-hold (calls ks xs ys zs))

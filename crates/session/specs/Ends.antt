@@ -4,8 +4,7 @@ use Prim.Native.Nat.{ℕ}
 use mathlib.Core.Path.{_≡_}
 use mathlib.Core.List.{List}
 use Rattle.definition.specs.Whole.{Lengths}
-use Rattle.layout.specs.Outcome.{Lent, outcome}
-use Rattle.turns.specs.Turns.{Same-lists}
+use Rattle.layout.specs.Outcome.{Lent, Same-lists, outcome}
 
 abbrev pub long : ℕ → ℕ → ℕ → ℕ → ℕ → Lengths
 long codes numbers graph form work = record { codes = codes; numbers = numbers; graph = graph; form = form; work = work }

@@ -1,7 +1,7 @@
 // The session: a whole list of calls over lent cells. The lengths decide whether it is run at all; if it is, the calls are run in turn.
 ghost use mathlib.Core.Path.{_≡_};
 ghost use Rattle.definition.specs.Whole.{needs, short, unfit};
-ghost use Rattle.turns.specs.Turns.{lent};
+ghost use Rattle.layout.specs.Outcome.{lent};
 ghost use Rattle.session.specs.Ends.{long, Ended};
 
 // What a session answers where a lent list is shorter than its need, and where the call lists don't fit together.

@@ -41,13 +41,13 @@ fn resolve_aliases(form: &[u32], c: Counts, val: Value) -> Value
     Value(a.number)
 }
 
-// What the last n results say, resolved. `first` is the first of them that isn't the sentinel, plus one; 0 for none yet.
+// What the last n results say, resolved. The sentinel says nothing; the second value that differs decides.
 fn agree(form: &[u32], work: &[u32], c: Counts, n: u32, sentinel: Value) -> Agreement
     requires { ⌜ Some-with (Can-agree (now form) (now work) c n) ⌝ }
     ensures { λ r. ⌜ ((s : Form) → (ts : List Task) → (rs : List ℕ) → Can-agree (now (form .entry)) (now (work .entry)) c n s ts rs
         → r ≡ judge (without (sentinel .0) (map (resolve s) (lasts n rs)))) ⌝ }
 {
-    let mut first: u32 = 0;
+    let mut verdict = Agreement::Nothing;
     let mut i: u32 = 0;
     while i < n {
         let r = work::result(work, c, n, i);
@@ -56,18 +56,21 @@ fn agree(form: &[u32], work: &[u32], c: Counts, n: u32, sentinel: Value) -> Agre
         if y.0 == sentinel.0 {
             continue;
         }
-        if first == 0 {
-            first = y.0 + 1;
-            continue;
-        }
-        if first != y.0 + 1 {
-            return Agreement::Many;
+        match verdict {
+            Agreement::Nothing => {
+                verdict = Agreement::One(y);
+            }
+            Agreement::One(val) => {
+                if y.0 != val.0 {
+                    return Agreement::Many;
+                }
+            }
+            Agreement::Many => {
+                return Agreement::Many;
+            }
         }
     }
-    if first == 0 {
-        return Agreement::Nothing;
-    }
-    Agreement::One(Value(first - 1))
+    verdict
 }
 
 // The value becomes the next argument at each destination of the branch that is the block.

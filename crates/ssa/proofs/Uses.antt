@@ -1,19 +1,20 @@
 -- A use, and settling a parameter that waited, are runs of the machine, which end with the recursion's answer. A use that finds a definition in its own
 -- block is answered by it.
 -- Assumes nothing.
-use Prim.Native.Nat.{ℕ, suc, _-_, _<_}
+use Prim.Native.Nat.{ℕ, suc, _<_}
 use mathlib.Core.Path.{_≡_, refl, sym, ap, _∙_, subst}
-use mathlib.Core.Logic.{_≢_}
-use mathlib.Core.Option.{Option, none, some}
+use mathlib.Core.Option.{some}
 use mathlib.Core.List.{List, []}
 use native.Mathlib.Nat.{le-trans}
 use native.Mathlib.Omega.{arith}
 use lib.ListN.{length}
+use Rattle.entity.specs.declared.OptionValue.{OptionValue}
+use Rattle.entity.specs.declared.Value.{Value}
 use Rattle.entity.specs.Limits.{limits}
+use Rattle.entity.specs.Options.{value-of}
 use Rattle.definition.specs.Base.{put}
 use Rattle.definition.specs.Form.{Graph, Form, def}
 use Rattle.definition.specs.Read.{Got, type-of, fill, read-on, read, depth}
-use Rattle.definition.specs.Tables.{plus-one}
 use Rattle.meaning.specs.Machine.{Task, conf, schedule, visit}
 use Rattle.meaning.proofs.Load.{load-next}
 use Rattle.meaning.proofs.Machine.{does, fills}
@@ -38,11 +39,6 @@ seen-of e h = record { cells = e .cells; bounds = h .bounds; sound = h .sound }
 
 -- ---- a use
 
--- what the cell of a definition says
-some-of : (o : Option ℕ) → plus-one o ≢ 0 → o ≡ some (plus-one o - 1)
-some-of none n = absurd (n refl)
-some-of (some y) n = let e : suc y - 1 ≡ y = omega arith in ap {B = Option ℕ} some (sym e)
-
 module _ {gl fl wl : List ℕ} {c : Counts} {v b : ℕ} {g : Graph} {s : Form} (h : Can-read gl fl wl c v b g s) where
   pub read-seen : Seen gl g
   read-seen = seen-of (h .rest .graph) (h .rest .steady)
@@ -54,12 +50,11 @@ module _ {gl fl wl : List ℕ} {c : Counts} {v b : ℕ} {g : Graph} {s : Form} (
   def-can = record { cells = h .rest .shown .form .cells; var = var-known; known = le-trans (h .known) (h .rest .steady .bounds .few) }
 
   -- recorded in b itself
-  pub read-here : {x : ℕ} → x ≡ plus-one (def s v b) → x ≢ 0 → (r : Finished) → r .0 .0 ≡ x - 1 → r .1 ≡ c → Has-read gl fl wl r v b g s
-  read-here {x} e n r ev ec =
-      let o : def s v b ≡ some (plus-one (def s v b) - 1) = some-of (def s v b) (λ z. n (e ∙ z)) in
-      let q : read (depth g) g v b s ≡ (plus-one (def s v b) - 1, s) = ap (read-on (read (g .blocks) g v) g v b s) o in
+  pub read-here : {x : OptionValue} {y : Value} → x ≡ OptionValue.Some y → value-of x ≡ def s v b → (r : Finished) → r .0 .0 ≡ y .0 → r .1 ≡ c → Has-read gl fl wl r v b g s
+  read-here {y = y} e here r ev ec =
+      let q : read (depth g) g v b s ≡ (y .0, s) = ap (read-on (read (g .blocks) g v) g v b s) (sym here ∙ ap value-of e) in
       record {
-        val = ev ∙ ap (λ (y : ℕ). y - 1) e ∙ ap (λ (z : Got). z .0) (sym q);
+        val = ev ∙ ap (λ (z : Got). z .0) (sym q);
         rest = subst (λ (z : Got). At-rest gl fl wl (r .1) g (z .1)) (sym q) (subst (λ (d : Counts). At-rest gl fl wl d g s) (sym ec) (h .rest));
       }
 

@@ -16,6 +16,7 @@ ghost use Rattle.form.specs.Can.{Ex, Cells, Has-def};
 ghost use Rattle.ssa.specs.Run.{Turn-with, Run-with, Under-way, Can-run, Ran};
 ghost use Rattle.ssa.specs.Use.{State-with, At-rest, Can-read, Has-read, Can-fill, Has-filled, Can-seal, Has-sealed, Marked};
 use entity::Block;
+use entity::OptionValue;
 use entity::Value;
 use entity::Variable;
 use layout::Call;
@@ -45,9 +46,9 @@ pub fn use_var(
     ensures { λ r. ⌜ ((g : Graph) → (s : Form) → Can-read (now (graph .entry)) (now (form .entry)) (now (work .entry)) c (var .0) (block .0) g s
         → Has-read (now (graph .entry)) (now (form .exit)) (now (work .exit)) r (var .0) (block .0) g s) ⌝ }
 {
-    let x = form::definition(form, var, block);
-    if x != 0 {
-        return Finished(Value(x - 1), c);
+    let here = form::definition(form, var, block);
+    if let OptionValue::Some(val) = here {
+        return Finished(val, c);
     }
     let ty = graph::variable_type(graph, var);
     let d = lookup::use_var_nonlocal(graph, form, work, c, var, ty, block);

@@ -18,11 +18,11 @@ use Rattle.layout.specs.declared.Counts.{Counts}
 use Rattle.layout.specs.Counts.{counts}
 use Rattle.layout.specs.Cells.{render}
 use Rattle.layout.specs.Layout.{graph-sizes, graph-tables, form-sizes, form-tables, work-sizes, work-tables}
-use Rattle.layout.specs.Outcome.{shown}
+use Rattle.layout.specs.Outcome.{lent, Same-lists, shown}
 use Rattle.layout.proofs.Cells.{render-length, render-held, holds-render}
 use Rattle.layout.proofs.Outcome.{calls-length}
 use Rattle.clear.specs.Cleared.{Long, Cleared}
-use Rattle.turns.specs.Turns.{Turned, Lined, call-at, lent, Exact, Same-lists}
+use Rattle.turns.specs.Turns.{Turned, Lined, call-at, Exact}
 
 -- ---- the calls
 

@@ -1,22 +1,18 @@
 -- What the answers before a call say: the use at a place is read off the kinds, the codes and the numbers; one more answer is written at the next place.
 -- Assumes nothing.
-use Prim.Native.Nat.{ℕ, zero, suc, _+_, _<_, _≤_}
+use Prim.Native.Nat.{ℕ, zero, suc, _<_, _≤_}
 use mathlib.Core.Path.{_≡_, refl, sym, ap, _∙_}
 use mathlib.Core.Bool.{_&&_, cond}
 use mathlib.Core.Option.{none, some}
 use mathlib.Core.List.{List, [], _∷_, _++_, map, map-append}
-use native.Mathlib.Nat.{not-suc-le-zero, le-of-suc-le-suc, le-trans}
+use native.Mathlib.Nat.{not-suc-le-zero, le-of-suc-le-suc}
 use native.Mathlib.Omega.{arith}
 use borrow.Author.Tests.{eq-eqb, ne-eqb}
 use lib.Dec.{eqb}
 use lib.ListN.{length, getD, set, take, length-append}
 use lib.Seq.{getD-take, take-suc, take-suc-set}
-use Rattle.entity.specs.Limits.{limits, value-room}
 use Rattle.definition.specs.Base.{_∷ʳ_}
-use Rattle.definition.specs.Session.{Done, State, answered}
-use Rattle.definition.specs.Tables.{plus-one}
-use Rattle.meaning.proofs.Sure.{Sure}
-use Rattle.meaning.proofs.Steady.{steady-of, steady-rooms}
+use Rattle.definition.specs.Session.{Done, answered}
 use Rattle.turns.specs.Turns.{Told}
 
 abbrev kind-of : Done → ℕ
@@ -39,8 +35,8 @@ answered-past [] k l = refl
 answered-past (d ∷ ds) zero l = absurd (not-suc-le-zero l)
 answered-past (d ∷ ds) (suc k) l = answered-past ds k (le-of-suc-le-suc l)
 
-pub not-yet : {i k : ℕ} (ds : List Done) → i ≡ length ds → i ≤ k → 0 ≡ plus-one (answered ds k)
-not-yet {k = k} ds e l = sym (ap plus-one (answered-past ds k (omega (arith, e))))
+pub not-yet : {i k : ℕ} (ds : List Done) → i ≡ length ds → i ≤ k → none ≡ answered ds k
+not-yet {k = k} ds e l = sym (answered-past ds k (omega (arith, e)))
 
 -- the first cells of a list hold something of each that was done
 module _ (f : Done → ℕ) (ds : List Done) (l : List ℕ) (h : take (length ds) l ≡ map f ds) where
@@ -58,17 +54,14 @@ module _ {ks ls ns : List ℕ} {ds : List Done} (h : Told ks ls ns ds) where
     answer : answered ds k ≡ cond (eqb (getD ks k 0) 6 && eqb (getD ls k 0) 0) (some (getD ns k 0)) none
     answer = answered-at ds k lt ∙ rw (first-at kind-of ds ks (h .kinds) k lt, first-at code-of ds ls (h .codes) k lt, first-at number-of ds ns (h .numbers) k lt)
 
-    pub no-use : (getD ks k 0 ≡ 6 → ⊥) → 0 ≡ plus-one (answered ds k)
+    pub no-use : (getD ks k 0 ≡ 6 → ⊥) → none ≡ answered ds k
     no-use n = rw (answer, ne-eqb (getD ks k 0) 6 n)
 
-    pub refused-use : getD ks k 0 ≡ 6 → (getD ls k 0 ≡ 0 → ⊥) → 0 ≡ plus-one (answered ds k)
+    pub refused-use : getD ks k 0 ≡ 6 → (getD ls k 0 ≡ 0 → ⊥) → none ≡ answered ds k
     refused-use e n = rw (answer, eq-eqb (getD ks k 0) 6 e, ne-eqb (getD ls k 0) 0 n)
 
-    pub the-use : getD ks k 0 ≡ 6 → getD ls k 0 ≡ 0 → answered ds k ≡ some (getD ns k 0)
+    pub the-use : getD ks k 0 ≡ 6 → getD ls k 0 ≡ 0 → some (getD ns k 0) ≡ answered ds k
     the-use e z = rw (answer, eq-eqb (getD ks k 0) 6 e, eq-eqb (getD ls k 0) 0 z)
-
-    pub its-answer : getD ks k 0 ≡ 6 → getD ls k 0 ≡ 0 → getD ns k 0 + 1 ≡ plus-one (answered ds k)
-    its-answer e z = rw (the-use e z) (omega arith)
 
   pub told-more : {i : ℕ} → i ≡ length ds → i < length ks → i < length ls → i < length ns → (d : Done) → d .asked .kind ≡ getD ks i 0
       → Told ks (set ls i (d .code)) (set ns i (d .number)) (ds ∷ʳ d)
@@ -77,7 +70,3 @@ module _ {ks ls ns : List ℕ} {ds : List Done} (h : Told ks ls ns ds) where
     codes = first-more code-of ds ls (h .codes) (set ls i (d .code)) d (rw e (take-suc-set ls (length ds) (d .code) (rw e at ll)));
     numbers = first-more number-of ds ns (h .numbers) (set ns i (d .number)) d (rw e (take-suc-set ns (length ds) (d .number) (rw e at ln)));
   }
-
--- what a use answered is a value
-pub answer-small : (t : State) → Sure t → (k x : ℕ) → answered (t .done) k ≡ some x → x < value-room limits
-answer-small t h k x e = le-trans (h .answers k x e) (steady-rooms (t .graph) (t .form) (steady-of t h) .values)

@@ -1,4 +1,4 @@
--- One turn of the list: the call's answer is written beside those before it; and what a run over exact lists leaves.
+-- One turn of the list: the call's answer is written beside those before it; and the lists that a run is given.
 -- Assumes nothing.
 use Prim.Native.Nat.{ℕ, _+_, _≤_}
 use mathlib.Core.Path.{_≡_}
@@ -8,7 +8,6 @@ use Rattle.entity.specs.Limits.{limits, graph-need, form-need, work-need}
 use Rattle.definition.specs.Session.{Call, Done, State}
 use Rattle.layout.specs.declared.Counts.{Counts}
 use Rattle.layout.specs.Counts.{counts}
-use Rattle.layout.specs.Outcome.{Lent}
 use Rattle.calls.specs.Calls.{Between}
 
 -- the next call's number
@@ -40,19 +39,8 @@ pub record Lined (n : ℕ) (xs ys zs codes numbers : List ℕ) : Type 0 where
 abbrev pub call-at : List ℕ → List ℕ → List ℕ → List ℕ → ℕ → Call
 call-at ks xs ys zs i = record { kind = getD ks i 0; x = getD xs i 0; y = getD ys i 0; z = getD zs i 0 }
 
-abbrev pub lent : List ℕ → List ℕ → List ℕ → List ℕ → List ℕ → Lent
-lent codes numbers graph form work = record { codes = codes; numbers = numbers; graph = graph; form = form; work = work }
-
 -- each list of cells is just as long as its need
 pub record Exact (graph form work : List ℕ) : Type 0 where
   pub graph-exact : length graph ≡ graph-need limits
   pub form-exact : length form ≡ form-need limits
   pub work-exact : length work ≡ work-need limits
-
--- t and u are the same, list by list
-pub record Same-lists (t u : Lent) : Type 0 where
-  pub codes : t .codes ≡ u .codes
-  pub numbers : t .numbers ≡ u .numbers
-  pub graph : t .graph ≡ u .graph
-  pub form : t .form ≡ u .form
-  pub work : t .work ≡ u .work

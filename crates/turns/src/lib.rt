@@ -1,18 +1,22 @@
 // The calls in turn, over lists of just the needed length: each is answered, and its answer written beside those before it.
 ghost use mathlib.Core.Path.{_≡_};
+ghost use mathlib.Core.List.{List};
 ghost use Prim.Native.Nat.{suc, _<_};
-ghost use lib.ListN.{length};
+ghost use lib.ListN.{length, getD};
 ghost use Rattle.entity.specs.Limits.{limits};
-ghost use Rattle.definition.specs.Session.{State, answered, step, session};
-ghost use Rattle.definition.specs.Tables.{plus-one};
+ghost use Rattle.entity.specs.Options.{value-of};
+ghost use Rattle.definition.specs.Session.{Done, State, answered, step, session};
 ghost use Rattle.definition.specs.Whole.{calls};
-ghost use Rattle.meaning.proofs.Sure.{Sure};
-ghost use Rattle.layout.specs.Outcome.{shown};
+ghost use Rattle.layout.specs.Outcome.{lent, Same-lists, shown};
 ghost use Rattle.calls.specs.Calls.{State-with};
-ghost use Rattle.turns.specs.Turns.{next-call, Told, Turned, Lined, call-at, lent, Exact, Same-lists};
+ghost use Rattle.turns.specs.Turns.{next-call, Told, Turned, Lined, call-at, Exact};
+use entity::OptionValue;
+use entity::Value;
 use layout::Counts;
 
-// The kind of a use, whose answer a later call of kind 5 may name.
+// The kind of a definition by an earlier answer, and the kind of the use that gave it.
+const DEFINE_ANSWER: u32 = 5;
+
 const USE: u32 = 6;
 
 // The next call bears the next number.
@@ -28,24 +32,35 @@ fn next_call(c: Counts) -> Counts
     }
 }
 
-// What the use at place y answered, plus one; 0 where there is no accepted use before place i.
-fn answered(kinds: &[u32], codes: &[u32], numbers: &[u32], i: usize, y: u32) -> u32
+// What the use at place y answered; none where there is no accepted use before place i.
+fn answered(kinds: &[u32], codes: &[u32], numbers: &[u32], i: usize, y: u32) -> OptionValue
     requires { ⌜ (i < length (now kinds)) × (length (now codes) ≡ length (now kinds)) × (length (now numbers) ≡ length (now kinds)) ⌝ }
-    requires { ⌜ State-with (λ t. Sure t × Told (now kinds) (now codes) (now numbers) (t .done) × (i ≡ length (t .done))) ⌝ }
-    ensures { λ r. ⌜ ((t : State) → Told (now (kinds .entry)) (now (codes .entry)) (now (numbers .entry)) (t .done) → i ≡ length (t .done)
-        → r ≡ plus-one (answered (t .done) y)) ⌝ }
+    ensures { λ r. ⌜ ((ds : List Done) → Told (now (kinds .entry)) (now (codes .entry)) (now (numbers .entry)) ds → i ≡ length ds
+        → value-of r ≡ answered ds y) ⌝ }
 {
     let k = y as usize;
     if i <= k {
-        return 0;
+        return OptionValue::None;
     }
     if kinds[k] != USE {
-        return 0;
+        return OptionValue::None;
     }
     if codes[k] != 0 {
-        return 0;
+        return OptionValue::None;
     }
-    numbers[k] + 1
+    OptionValue::Some(Value(numbers[k]))
+}
+
+// The same where the call at place i is of kind 5. The others name no earlier use, so none is looked for.
+fn named_answer(kinds: &[u32], codes: &[u32], numbers: &[u32], i: usize, y: u32) -> OptionValue
+    requires { ⌜ (i < length (now kinds)) × (length (now codes) ≡ length (now kinds)) × (length (now numbers) ≡ length (now kinds)) ⌝ }
+    ensures { λ r. ⌜ ((ds : List Done) → Told (now (kinds .entry)) (now (codes .entry)) (now (numbers .entry)) ds → i ≡ length ds
+        → getD (now (kinds .entry)) i 0 ≡ 5 → value-of r ≡ answered ds y) ⌝ }
+{
+    if kinds[i] != DEFINE_ANSWER {
+        return OptionValue::None;
+    }
+    answered(kinds, codes, numbers, i, y)
 }
 
 // One turn: the call at place i is answered, and its answer written there.
@@ -71,7 +86,7 @@ fn turn(
         (step t (call-at (now (kinds .entry)) (now (xs .entry)) (now (ys .entry)) (now (zs .entry)) i))) ⌝ }
 {
     let y = ys[i];
-    let w = answered(kinds, codes, numbers, i, y);
+    let w = named_answer(kinds, codes, numbers, i, y);
     let r = calls::one_call(graph, form, work, c, kinds[i], xs[i], y, zs[i], w);
     codes[i] = r.code;
     numbers[i] = r.number;

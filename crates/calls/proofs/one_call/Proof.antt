@@ -1,7 +1,6 @@
 -- `one_call` meets its contract: each kind's function answers the definition's reply of that kind; any other kind is refused.
 -- Assumes nothing.
 use Rattle.calls.proofs.Calls.{ready, unknown, turned-down}
-use Rattle.definition.specs.Session.{answered}
 use borrow.Author.Needs.{needs}
 use Rattle.calls.proofs.one_call.Statement.{statement}
 use Rattle.calls.proofs.one_call.Tie as tie
@@ -36,7 +35,9 @@ define-answer-requires : tie.Need-define-answer-requires
 define-answer-requires c κs = ready (c .before .before .before .before .before .before .pre)
 
 returns-5 : tie.Need-returns-5
-returns-5 c = λ t e h. rw (c .before .before .before .before .before .match .keys5) record { replies = c .before .before .define-answer .ensures (answered (t .done) _) e t (h .showing); idle = h .idle }
+returns-5 c =
+    let five = c .before .before .before .before .before .match .keys5 in
+    λ t e h. rw (five, ← e five) record { replies = c .before .before .define-answer .ensures t (h .showing); idle = h .idle }
 
 returns-6 : tie.Need-returns-6
 returns-6 c = λ t e h. rw (c .before .before .before .before .before .before .before .before .match .keys6) (c .before .before .before .before .use-var .ensures t h)

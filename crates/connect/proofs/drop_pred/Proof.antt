@@ -1,87 +1,46 @@
 -- `drop_pred` meets its contract: the checks are the definition's, in its order, and the place answered is the one that the branch had.
--- e1 is the place past the first check, and so on. Assumes nothing.
+-- Assumes nothing.
 use borrow.Author.Needs.{needs}
 use borrow.Author.Tests.{not-true, not-false}
 use mathlib.Core.Path.{refl}
 use Rattle.reply.proofs.Asked.{seen, seen-some, cells}
 use Rattle.reply.proofs.Answered.{tested, refused, changed, accepted}
+use Rattle.connect.proofs.Checks.{by-check}
 use Rattle.connect.proofs.drop_pred.Statement.{statement}
 use Rattle.connect.proofs.drop_pred.Tie as tie
 
-no-block-requires : tie.Need-no-block-requires
-no-block-requires c κs = seen-some (c .before .before .pre .1)
+check-pred-requires : tie.Need-check-pred-requires
+check-pred-requires c κs = seen-some (c .before .before .pre .1)
 
 returns : tie.Need-returns
-returns c = λ fl t h. rw (tested (c .before .before .no-block .ensures .1 _ (t .form) (seen h)) (c .before .if1 .taken)) (refused h (c .refuse .ensures))
+returns c = λ fl t h. by-check (c .before .before .check .given .1) (c .before .before .before .before .check-pred .ensures .1 _ (t .form) (seen h)) _ (refused h (c .refuse .ensures))
 
-no-branch-requires : tie.Need-no-branch-requires
-no-branch-requires c κs = seen-some (c .before .before .before .before .before .pre .1)
+is-predecessor-requires : tie.Need-is-predecessor-requires
+is-predecessor-requires c κs = (seen-some (c .before .before .before .before .before .before .pre .1), c .before .before .before .check-pred .ensures .0 (c .before .enum-told .given .1) .0)
 
 returns-2 : tie.Need-returns-2
 returns-2 c = λ fl t h.
-    rw (tested (c .before .before .before .before .before .no-block .ensures .1 _ (t .form) (seen h)) (c .before .before .before .before .if1 .left), tested (c .before .before .no-branch .ensures .1 _ (t .form) (seen h)) (c .before .if2 .taken))
-    (refused h (c .refuse2 .ensures))
-
-is-sealed-requires : tie.Need-is-sealed-requires
-is-sealed-requires c κs =
-    let e1 = c .before .before .before .before in
-    (seen-some (e1 .before .before .before .before .pre .1), e1 .before .no-block .ensures .0 (e1 .if1 .left))
-
-returns-3 : tie.Need-returns-3
-returns-3 c =
-    let e2 = c .before .before .before .before in
-    let e1 = e2 .before .before .before in
-    λ fl t h.
-    rw (tested (e1 .before .no-block .ensures .1 _ (t .form) (seen h)) (e1 .if1 .left), tested (e2 .before .no-branch .ensures .1 _ (t .form) (seen h)) (e2 .if2 .left), tested (c .before .before .is-sealed .ensures _ (seen h)) (c .before .if3 .taken))
-    (refused h (c .refuse3 .ensures))
-
-is-predecessor-requires : tie.Need-is-predecessor-requires
-is-predecessor-requires c κs =
-    let e1 = c .before .before .before .before .before .before .before in
-    (seen-some (e1 .before .before .before .before .pre .1), e1 .before .no-block .ensures .0 (e1 .if1 .left))
-
-returns-4 : tie.Need-returns-4
-returns-4 c =
-    let e3 = c .before .before .before .before in
-    let e2 = e3 .before .before .before in
-    let e1 = e2 .before .before .before in
-    λ fl t h.
-    rw (
-      tested (e1 .before .no-block .ensures .1 _ (t .form) (seen h)) (e1 .if1 .left),
-      tested (e2 .before .no-branch .ensures .1 _ (t .form) (seen h)) (e2 .if2 .left),
-      tested (e3 .before .is-sealed .ensures _ (seen h)) (e3 .if3 .left),
-      tested (c .before .before .is-predecessor .ensures _ (seen h)) (not-true _ (c .before .if4 .taken)),
-    )
-    (refused h (c .refuse4 .ensures))
+    by-check (c .before .before .before .before .enum-told .given .1) (c .before .before .before .before .before .before .check-pred .ensures .1 _ (t .form) (seen h)) _
+    (rw (tested (c .before .before .is-predecessor .ensures _ (seen h)) (not-true _ (c .before .if1 .taken))) (refused h (c .refuse2 .ensures)))
 
 remove-block-predecessor-requires : tie.Need-remove-block-predecessor-requires
 remove-block-predecessor-requires c κs =
-    let e1 = c .before .before .before .before .before .before .before .before .before .before in
-    let p = e1 .before .before .before .before .pre in (
-      (_, record { seen = seen (p .1 .1); there = tested (c .before .before .is-predecessor .ensures _ (seen (p .1 .1))) (not-false _ (c .before .if4 .left)) }),
-      e1 .before .no-block .ensures .0 (e1 .if1 .left),
+    let p = c .before .before .before .before .before .before .before .before .before .pre in (
+      (_, record { seen = seen (p .1 .1); there = tested (c .before .before .is-predecessor .ensures _ (seen (p .1 .1))) (not-false _ (c .before .if1 .left)) }),
+      c .before .before .before .before .before .before .check-pred .ensures .0 (c .before .before .before .before .enum-told .given .1) .0,
     )
 
-returns-5 : tie.Need-returns-5
-returns-5 c =
-    let e4 = c .before .before .before .before .before in
-    let e3 = e4 .before .before .before in
-    let e2 = e3 .before .before .before in
-    let e1 = e2 .before .before .before in
-    λ fl t h.
-    let there = tested (e4 .before .is-predecessor .ensures _ (seen h)) (not-false _ (e4 .if4 .left)) in
+returns-3 : tie.Need-returns-3
+returns-3 c = λ fl t h.
+    let there = tested (c .before .before .before .before .before .before .is-predecessor .ensures _ (seen h)) (not-false _ (c .before .before .before .before .before .if1 .left)) in
     let removed = c .before .before .before .remove-block-predecessor .ensures _ (record { seen = seen h; there = there }) in
-    rw (
-      tested (e1 .before .no-block .ensures .1 _ (t .form) (seen h)) (e1 .if1 .left),
-      tested (e2 .before .no-branch .ensures .1 _ (t .form) (seen h)) (e2 .if2 .left),
-      tested (e3 .before .is-sealed .ensures _ (seen h)) (e3 .if3 .left),
-      there,
-    )
-    (accepted (c .accept .ensures) (removed .0) (changed h refl refl (removed .1) (cells h)))
+    by-check (c .before .before .before .before .before .before .before .before .enum-told .given .1) (c .before .before .before .before .before .before .before .before .before .before .check-pred .ensures .1 _ (t .form) (seen h)) _
+    (rw there (accepted (c .accept .ensures) (removed .0) (changed h refl refl (removed .1) (cells h))))
 
 pub drop-pred-spec : {M : Type 1} → statement M
-drop-pred-spec = tie.close (tie.spec
-    no-block-requires (λ c κs. search needs) (λ c. search needs) returns no-branch-requires (λ c κs. search needs)
-    (λ c. search needs) returns-2 is-sealed-requires (λ c κs. search needs) (λ c. search needs) returns-3
-    is-predecessor-requires (λ c κs. search needs) (λ c. search needs) returns-4 remove-block-predecessor-requires
-    (λ c κs. search needs) (λ c. search needs) returns-5)
+drop-pred-spec =
+    tie.close
+    (tie.spec
+    check-pred-requires (λ c. search needs) (λ c κs. search needs) (λ c. search needs) returns (λ c. search needs)
+    is-predecessor-requires (λ c κs. search needs) (λ c. search needs) returns-2 remove-block-predecessor-requires
+    (λ c κs. search needs) (λ c. search needs) returns-3)

@@ -13,16 +13,16 @@ push-result-requires : tie.Need-push-result-requires
 push-result-requires c κs = let p = c .before .before .before .before .before .before .before .before .before .before .pre in (p .2, p .3, answer-can (p .4 .asks))
 
 returns : tie.Need-returns
-returns c = λ g s ts rs h. finds-met h (c .before .before .before .before .before .before .before .before .walk .ensures g s (walk-can (h .asks))) (c .before .before .before .before .before .if1 .taken) refl refl (c .before .before .push-result .ensures)
+returns c = λ g s ts rs h. finds-met h (c .before .before .before .before .before .before .before .before .walk .ensures g s (walk-can (h .asks))) (c .before .before .before .before .before .value .given .1) refl refl (c .before .before .push-result .ensures)
 
 append-block-param-requires : tie.Need-append-block-param-requires
-append-block-param-requires c κs = let p = c .before .before .before .before .before .before .before .before .before .pre in (p .1, append-can (p .4) (c .before .before .before .before .walk .ensures _ _ (walk-can (p .4 .asks))) (c .before .if1 .left))
+append-block-param-requires c κs = let p = c .before .before .before .before .before .before .before .before .before .pre in (p .1, append-can (p .4) (c .before .before .before .before .walk .ensures _ _ (walk-can (p .4 .asks))) (c .before .enum-told .given .1))
 
 record-def-requires : tie.Need-record-def-requires
 record-def-requires c κs =
     let p = c .before .before .before .before .before .before .before .before .before .before .before .before .before .pre in
     let w = c .before .before .before .before .before .before .before .before .walk .ensures _ _ (walk-can (p .4 .asks)) in
-    ((_, record-has (p .4) w (c .before .before .before .before .before .if1 .left) (c .before .before .before .append-block-param .ensures)), value-small (p .4) w (c .before .before .before .before .before .if1 .left))
+    ((_, record-has (p .4) w (c .before .before .before .before .before .enum-told .given .1) (c .before .before .before .append-block-param .ensures)), value-small (p .4) w (c .before .before .before .before .before .enum-told .given .1))
 
 is-sealed-requires : tie.Need-is-sealed-requires
 is-sealed-requires c κs = let p = c .before .before .before .before .before .before .before .before .before .before .before .before .before .before .before .before .pre in ((p .0, p .4 .asks .seen), block-low (p .4) (c .before .before .before .before .before .before .before .before .before .before .before .walk .ensures _ _ (walk-can (p .4 .asks))))
@@ -30,26 +30,26 @@ is-sealed-requires c κs = let p = c .before .before .before .before .before .be
 begin-predecessors-lookup-requires : tie.Need-begin-predecessors-lookup-requires
 begin-predecessors-lookup-requires c κs =
     let p = c .before .before .before .before .before .before .before .before .before .before .before .before .before .before .before .before .before .before .before .pre in
-    (p .0, p .2, p .3, begin-can (p .4) (c .before .before .before .before .before .before .before .before .before .before .before .before .before .before .walk .ensures _ _ (walk-can (p .4 .asks))) (c .before .before .before .before .before .before .before .before .before .before .before .if1 .left) (c .before .before .before .before .before .before .before .before .before .append-block-param .ensures))
+    (p .0, p .2, p .3, begin-can (p .4) (c .before .before .before .before .before .before .before .before .before .before .before .before .before .before .walk .ensures _ _ (walk-can (p .4 .asks))) (c .before .before .before .before .before .before .before .before .before .before .before .enum-told .given .1) (c .before .before .before .before .before .before .before .before .before .append-block-param .ensures))
 
 returns-2 : tie.Need-returns-2
 returns-2 c = λ g s ts rs h.
-    finds-sealed h (c .before .before .before .before .before .before .before .before .before .before .before .before .before .before .before .before .before .walk .ensures g s (walk-can (h .asks))) (c .before .before .before .before .before .before .before .before .before .before .before .before .before .before .if1 .left) (c .before .before .before .before .before .before .before .before .before .before .before .before .append-block-param .ensures) (c .before .before .before .before .before .before .before .before .record-def .ensures) (c .before .before .before .before .before .is-sealed .ensures) (c .before .before .before .before .if2 .taken) refl refl
+    finds-sealed h (c .before .before .before .before .before .before .before .before .before .before .before .before .before .before .before .before .before .walk .ensures g s (walk-can (h .asks))) (c .before .before .before .before .before .before .before .before .before .before .before .before .before .before .enum-told .given .1) (c .before .before .before .before .before .before .before .before .before .before .before .before .append-block-param .ensures) (c .before .before .before .before .before .before .before .before .record-def .ensures) (c .before .before .before .before .before .is-sealed .ensures) (c .before .before .before .before .if1 .taken) refl refl
     (c .before .before .begin-predecessors-lookup .ensures)
 
 push-pending-requires : tie.Need-push-pending-requires
 push-pending-requires c κs =
     let p = c .before .before .before .before .before .before .before .before .before .before .before .before .before .before .before .before .before .before .before .pre in
-    (_, wait-can (p .4) (c .before .before .before .before .before .before .before .before .before .before .before .before .before .before .walk .ensures _ _ (walk-can (p .4 .asks))) (c .before .before .before .before .before .before .before .before .before .before .before .if1 .left) (c .before .before .before .before .before .before .before .before .before .append-block-param .ensures) (c .before .before .before .before .before .record-def .ensures))
+    (_, wait-can (p .4) (c .before .before .before .before .before .before .before .before .before .before .before .before .before .before .walk .ensures _ _ (walk-can (p .4 .asks))) (c .before .before .before .before .before .before .before .before .before .before .before .enum-told .given .1) (c .before .before .before .before .before .before .before .before .before .append-block-param .ensures) (c .before .before .before .before .before .record-def .ensures))
 
 push-result-requires-2 : tie.Need-push-result-requires-2
 push-result-requires-2 c κs =
     let p = c .before .before .before .before .before .before .before .before .before .before .before .before .before .before .before .before .before .before .before .before .before .before .before .pre in
-    (p .2, p .3, answer-can-after (p .4) (c .before .before .before .before .before .before .before .before .before .before .before .before .before .before .before .before .before .before .walk .ensures _ _ (walk-can (p .4 .asks))) (c .before .before .before .before .before .before .before .before .before .before .before .before .before .before .before .if1 .left) (c .before .before .before .before .before .before .before .before .before .before .before .before .before .append-block-param .ensures))
+    (p .2, p .3, answer-can-after (p .4) (c .before .before .before .before .before .before .before .before .before .before .before .before .before .before .before .before .before .before .walk .ensures _ _ (walk-can (p .4 .asks))) (c .before .before .before .before .before .before .before .before .before .before .before .before .before .before .before .enum-told .given .1) (c .before .before .before .before .before .before .before .before .before .before .before .before .before .append-block-param .ensures))
 
 returns-3 : tie.Need-returns-3
 returns-3 c = λ g s ts rs h.
-    finds-open h (c .before .before .before .before .before .before .before .before .before .before .before .before .before .before .before .before .before .before .before .before .before .walk .ensures g s (walk-can (h .asks))) (c .before .before .before .before .before .before .before .before .before .before .before .before .before .before .before .before .before .before .if1 .left) (c .before .before .before .before .before .before .before .before .before .before .before .before .before .before .before .before .append-block-param .ensures) (c .before .before .before .before .before .before .before .before .before .before .before .before .record-def .ensures) (c .before .before .before .before .before .before .before .before .before .is-sealed .ensures) (c .before .before .before .before .before .before .before .before .if2 .left) refl refl
+    finds-open h (c .before .before .before .before .before .before .before .before .before .before .before .before .before .before .before .before .before .before .before .before .before .walk .ensures g s (walk-can (h .asks))) (c .before .before .before .before .before .before .before .before .before .before .before .before .before .before .before .before .before .before .enum-told .given .1) (c .before .before .before .before .before .before .before .before .before .before .before .before .before .before .before .before .append-block-param .ensures) (c .before .before .before .before .before .before .before .before .before .before .before .before .record-def .ensures) (c .before .before .before .before .before .before .before .before .before .is-sealed .ensures) (c .before .before .before .before .before .before .before .before .if1 .left) refl refl
     (c .before .before .before .before .before .before .push-pending .ensures) (c .before .before .push-result2 .ensures)
 
 pub find-var-spec : {M : Type 1} → statement M
@@ -57,6 +57,6 @@ find-var-spec =
     tie.close
     (tie.spec
     walk-requires (λ c. search needs) push-result-requires (λ c. search needs) (λ c. search needs) returns
-    append-block-param-requires record-def-requires is-sealed-requires begin-predecessors-lookup-requires (λ c. search needs)
-    (λ c. search needs) returns-2 push-pending-requires push-result-requires-2 (λ c. search needs) (λ c. search needs)
-    returns-3)
+    (λ c. search needs) append-block-param-requires record-def-requires is-sealed-requires
+    begin-predecessors-lookup-requires (λ c. search needs) (λ c. search needs) returns-2 push-pending-requires
+    push-result-requires-2 (λ c. search needs) (λ c. search needs) returns-3)

@@ -2,8 +2,9 @@
 -- Assumes nothing.
 use mathlib.Core.Path.{sym}
 use Rattle.reply.proofs.Answered.{tested}
-use Rattle.turns.specs.Turns.{lent}
-use Rattle.session.proofs.Fits.{Fits, all-unfit, some-short, fits, back, lined, exact, all-done}
+use Rattle.layout.specs.Outcome.{lent}
+use Rattle.layout.proofs.Outcome.{Fits, fits}
+use Rattle.session.proofs.Fits.{all-unfit, some-short, back, lined, exact, all-done}
 use Rattle.session.proofs.unfit.Reads as unfit-reads
 use Rattle.session.proofs.short.Reads as short-reads
 use Rattle.turns.proofs.run.Reads as run-reads

@@ -11,16 +11,16 @@ definition-requires : tie.Need-definition-requires
 definition-requires c κs = let p = c .before .before .before .before .pre in (p .1, def-can (p .2))
 
 returns : tie.Need-returns
-returns c = λ g s h. read-here h (c .before .definition .ensures s (def-can h)) (λ e. c .if1 .taken e) _ refl refl
+returns c = λ g s h. read-here h (c .before .here .given .1) (c .before .before .before .definition .ensures s (def-can h)) _ refl refl
 
 variable-type-requires : tie.Need-variable-type-requires
-variable-type-requires c κs = let p = c .before .before .before .before .before .before .pre in ((p .0, read-seen (p .2)), var-known (p .2))
+variable-type-requires c κs = let p = c .before .before .before .before .before .before .before .pre in ((p .0, read-seen (p .2)), var-known (p .2))
 
 use-var-nonlocal-requires : tie.Need-use-var-nonlocal-requires
-use-var-nonlocal-requires c κs = let p = c .before .before .before .before .before .before .before .before .before .pre in (p .0, p .1, [], [], use-can (p .2) (c .before .before .variable-type .ensures))
+use-var-nonlocal-requires c κs = let p = c .before .before .before .before .before .before .before .before .before .before .pre in (p .0, p .1, [], [], use-can (p .2) (c .before .before .variable-type .ensures))
 
 run-state-machine-requires : tie.Need-run-state-machine-requires
-run-state-machine-requires c κs = let p = c .before .before .before .before .before .before .before .before .before .before .before .before .before .before .before .before .pre in (p .0, _, _, _, use-run (p .2) (c .before .before .before .before .before .before .before .before .before .variable-type .ensures) (c .before .before .before .before .before .before .use-var-nonlocal .ensures))
+run-state-machine-requires c κs = let p = c .before .before .before .before .before .before .before .before .before .before .before .before .before .before .before .before .before .pre in (p .0, _, _, _, use-run (p .2) (c .before .before .before .before .before .before .before .before .before .variable-type .ensures) (c .before .before .before .before .before .before .use-var-nonlocal .ensures))
 
 returns-2 : tie.Need-returns-2
 returns-2 c = λ g s h. has-read h (c .before .before .before .before .before .before .before .before .before .before .before .before .before .before .variable-type .ensures) (c .before .before .before .before .before .before .before .before .before .before .before .use-var-nonlocal .ensures) (c .before .before .before .before .run-state-machine .ensures g _ _ _ (use-run h (c .before .before .before .before .before .before .before .before .before .before .before .before .before .before .variable-type .ensures) (c .before .before .before .before .before .before .before .before .before .before .before .use-var-nonlocal .ensures)))
@@ -29,5 +29,5 @@ pub use-var-spec : {M : Type 1} → statement M
 use-var-spec =
     tie.close
     (tie.spec
-    definition-requires (λ c. search needs) (λ c. search needs) returns variable-type-requires use-var-nonlocal-requires
-    run-state-machine-requires (λ c. search needs) (λ c. search needs) returns-2)
+    definition-requires (λ c. search needs) (λ c. search needs) returns (λ c. search needs) variable-type-requires
+    use-var-nonlocal-requires run-state-machine-requires (λ c. search needs) (λ c. search needs) returns-2)

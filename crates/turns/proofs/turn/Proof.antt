@@ -6,12 +6,6 @@ use native.Mathlib.Omega.{arith}
 use Rattle.turns.proofs.turn.Statement.{statement}
 use Rattle.turns.proofs.turn.Tie as tie
 
-answered-requires : tie.Need-answered-requires
-answered-requires c κs =
-    let p = c .before .before .before .before .before .before .before .before .before .before .before .before .pre in
-    let h = p .1 .1 .1 in
-    ((p .0, p .1 .0 .codes-long, p .1 .0 .numbers-long), (p .1 .1 .0, (h .between .showing .sure, h .told, h .turns)))
-
 mul-codes : tie.Need-mul-codes
 mul-codes c = let p = c .before .before .before .before .before .before .before .before .before .before .before .before .before .before .before .before .before .before .before .before .before .before .before .before .before .before .pre in omega (arith, p .0, p .1 .0 .few)
 
@@ -26,28 +20,22 @@ slice-write-numbers c = let p = c .before .before .before .before .before .befor
 
 next-call-requires : tie.Need-next-call-requires
 next-call-requires c κs =
-    let e3 = c .before .before .before .before .before .before .before in
-    let e2 = e3 .before .before .before .before .before .before .before in
-    let e1 = e2 .before .before .before .before .before .before .before .before .before .before .before .before .before in
-    let p = e1 .pre in
+    let p = c .before .before .before .before .before .before .before .before .before .before .before .before .before .before .before .before .before .before .before .before .before .before .before .before .before .before .before .pre in
     let t = p .1 .1 .0 in
     let h = p .1 .1 .1 in
-    call-small h (p .0) (p .1 .0) (e3 .one-call .ensures t (e2 .answered .ensures t (h .told) (h .turns)) (h .between))
+    call-small h (p .0) (p .1 .0) (c .before .before .before .before .before .before .before .one-call .ensures t (c .before .before .before .before .before .before .before .before .before .before .before .before .before .before .named-answer .ensures (t .done) (h .told) (h .turns)) (h .between))
 
 returns : tie.Need-returns
 returns c =
-    let e3 = c .before .before .before .before .before .before .before .before in
-    let e2 = e3 .before .before .before .before .before .before .before in
-    let e1 = e2 .before .before .before .before .before .before .before .before .before .before .before .before .before in
     λ t h.
-    let p = e1 .pre in
-    turned-next h (p .0) (p .1 .0) (e3 .one-call .ensures t (e2 .answered .ensures t (h .told) (h .turns)) (h .between)) (c .next-call .ensures)
+    let p = c .before .before .before .before .before .before .before .before .before .before .before .before .before .before .before .before .before .before .before .before .before .before .before .before .before .before .before .before .pre in
+    turned-next h (p .0) (p .1 .0) (c .before .before .before .before .before .before .before .before .one-call .ensures t (c .before .before .before .before .before .before .before .before .before .before .before .before .before .before .before .named-answer .ensures (t .done) (h .told) (h .turns)) (h .between)) (c .next-call .ensures)
 
 pub turn-spec : {M : Type 1} → statement M
 turn-spec =
     tie.close
     (tie.spec
-    (λ c. search needs) (λ c. search needs) answered-requires (λ c. search needs) (λ c. search needs) (λ c. search needs)
-    (λ c. search needs) (λ c. search needs) (λ c. search needs) (λ c κs. search needs) mul-codes slice-write-codes
-    mul-numbers slice-write-numbers next-call-requires (λ c. search needs) (λ c. search needs) (λ c. search needs)
-    (λ c. search needs) (λ c. search needs) returns)
+    (λ c. search needs) (λ c. search needs) (λ c κs. search needs) (λ c. search needs) (λ c. search needs)
+    (λ c. search needs) (λ c. search needs) (λ c. search needs) (λ c. search needs) (λ c κs. search needs) mul-codes
+    slice-write-codes mul-numbers slice-write-numbers next-call-requires (λ c. search needs) (λ c. search needs)
+    (λ c. search needs) (λ c. search needs) (λ c. search needs) returns)
