@@ -12,7 +12,7 @@ use lib.Seq.{take-at, drop-at}
 use Rattle.entity.specs.Limits.{limits}
 use Rattle.definition.specs.Base.{_=?_, _<?_}
 use Rattle.definition.specs.Session.{Call, Done, State, Reply, no, ok, reply, after, step, run, empty, session}
-use Rattle.layout.specs.Layout.{graph-sizes, graph-tables, form-sizes, form-tables, work-sizes, work-tables}
+use Rattle.layout.specs.Layout.{graph-sizes, graph-tables, form-sizes, form-tables, work-sizes}
 use Rattle.definition.specs.Whole.{calls, Lengths, needs, short, unfit}
 use Rattle.layout.specs.Outcome.{Lent, lengths, outcome, shown, first, past, followed-by}
 use Rattle.layout.proofs.Cells.{render-length}
@@ -121,7 +121,7 @@ shown-lengths s =
       length-map (s .done) (λ (d : Done). d .number),
       render-length graph-sizes (graph-tables (s .graph)),
       render-length form-sizes (form-tables (s .form)),
-      render-length work-sizes (work-tables [] []),
+      render-length work-sizes [],
     )
 
 module _ (ks xs ys zs : List ℕ) where

@@ -1,16 +1,16 @@
 -- Which table holds what, in the three lent lists: graph, form and work. Sizes follow from the limits.
 -- Assumes nothing.
-use Prim.Native.Nat.{ℕ, suc, _*_, _/_, _%_}
+use Prim.Native.Nat.{ℕ, suc, _+_, _*_, _/_, _%_, _≤_, _<_}
 use mathlib.Core.Path.{_≡_, refl}
-use mathlib.Core.List.{List, [], _∷_, map}
-use lib.ListN.{length}
+use mathlib.Core.List.{List, [], _∷_, map, reverse}
+use lib.ListN.{length, getD}
 use Rattle.entity.specs.Limits.{limits, row-cells, zero-room, value-room, param-room, pred-room, call-room, result-room, graph-need, form-need, work-need}
 use Rattle.definition.specs.Form.{Graph, Form, def}
 use Rattle.definition.specs.Session.{bit}
 use Rattle.definition.specs.Tables.{sort-number, plus-one}
 use Rattle.meaning.specs.Machine.{Task, look, finish, Conf}
 use Rattle.layout.specs.declared.Counts.{Counts}
-use Rattle.layout.specs.Cells.{Table, sum, render, Holds, grid, cell, rows, upto, pile}
+use Rattle.layout.specs.Cells.{Table, sum, base, render, Holds, grid, cell, rows, upto}
 
 abbrev pub firsts : List (ℕ × ℕ) → List ℕ
 firsts = map (λ w. w .0)
@@ -82,9 +82,6 @@ task-block (finish x b) = b
 abbrev pub work-sizes : List ℕ
 work-sizes = call-room limits ∷ call-room limits ∷ result-room limits ∷ []
 
-abbrev pub work-tables : List Task → List ℕ → List Table
-work-tables ts rs = pile (map task-value ts) ∷ pile (map task-block ts) ∷ pile rs ∷ []
-
 -- the tables fill what each list needs
 graph-fills : sum graph-sizes ≡ graph-need limits
 graph-fills = refl
@@ -101,8 +98,9 @@ render-graph g = render graph-sizes (graph-tables g)
 abbrev pub render-form : Form → List ℕ
 render-form s = render form-sizes (form-tables s)
 
-abbrev pub render-work : List Task → List ℕ → List ℕ
-render-work ts rs = render work-sizes (work-tables ts rs)
+-- no lookup is under way: zeros
+abbrev pub render-work : List ℕ
+render-work = render work-sizes []
 
 -- The lent cells and the counts show the graph, the form, the stacks.
 pub record Graphs (lent : List ℕ) (c : Counts) (g : Graph) : Type 0 where
@@ -113,8 +111,18 @@ pub record Shows (lent : List ℕ) (c : Counts) (s : Form) : Type 0 where
   pub cells : Holds form-sizes lent (form-tables s)
   pub next : c .values ≡ s .next
 
+-- The first cells of table t hold the stack xs, whose top is in front of the list, from its bottom on. What is above its top may be anything.
+abbrev pub Stacked : List ℕ → ℕ → List ℕ → Type 0
+Stacked lent t xs = (j : ℕ) → j < length xs → j < getD work-sizes t 0 → getD lent (base work-sizes t + j) 0 ≡ getD (reverse xs) j 0
+
+pub record Piles (lent : List ℕ) (ts : List Task) (rs : List ℕ) : Type 0 where
+  pub long : sum work-sizes ≤ length lent
+  pub values : Stacked lent 0 (map task-value ts)
+  pub blocks : Stacked lent 1 (map task-block ts)
+  pub held : Stacked lent 2 rs
+
 pub record Stacks (lent : List ℕ) (c : Counts) (ts : List Task) (rs : List ℕ) : Type 0 where
-  pub cells : Holds work-sizes lent (work-tables ts rs)
+  pub cells : Piles lent ts rs
   pub calls : c .calls ≡ length ts
   pub results : c .results ≡ length rs
 
