@@ -44,7 +44,7 @@ module _ (l : List ℕ) where
   pub zeros-form : sum form-sizes ≤ length l → ((i : ℕ) → i < sum form-sizes → getD l i 0 ≡ 0) → Holds form-sizes l (form-tables (empty .form))
   zeros-form =
       zeros-hold form-sizes (form-tables (empty .form))
-      (nothing & nothing & no-value _ & no-value _ & no-value _ & no-value _ & no-entry & no-entry & no-entry
+      (nothing & nothing & no-value _ & no-value _ & no-entry & no-entry & no-entry
       & no-row param-row & no-row param-row & nothing & no-row param-row & end)
 
   pub zeros-work : sum work-sizes ≤ length l → ((i : ℕ) → i < sum work-sizes → getD l i 0 ≡ 0) → Holds work-sizes l []

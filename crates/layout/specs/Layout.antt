@@ -5,7 +5,8 @@ use mathlib.Core.Path.{_≡_, refl}
 use mathlib.Core.List.{List, [], _∷_, map, reverse}
 use lib.ListN.{length, getD}
 use Rattle.entity.specs.Limits.{limits, row-cells, zero-room, value-room, param-room, pred-room, call-room, result-room, graph-need, form-need, work-need}
-use Rattle.definition.specs.Form.{Graph, Form, def}
+use Rattle.entity.specs.Described.{packed}
+use Rattle.definition.specs.Form.{Graph, Form, Info, def}
 use Rattle.definition.specs.Session.{bit}
 use Rattle.definition.specs.Tables.{sort-number, plus-one}
 use Rattle.meaning.specs.Machine.{Task, look, finish, Conf}
@@ -47,9 +48,13 @@ graph-tables g =
     ∷ rows pred-row (g .preds)  -- 5
     ∷ []
 
+-- what a value is, in one cell; no value is marked yet
+abbrev pub described : Info → ℕ
+described i = packed (i .type) (sort-number (i .sort)) 0 (i .home)
+
 abbrev pub form-sizes : List ℕ
 form-sizes =
-    1 ∷ 1 ∷ value-room limits ∷ value-room limits ∷ value-room limits ∷ value-room limits ∷ pred-row ∷ zero-row ∷ zero-row
+    1 ∷ 1 ∷ value-room limits ∷ value-room limits ∷ pred-row ∷ zero-row ∷ zero-row
     ∷ limits .blocks * param-row ∷ limits .blocks * param-row
     ∷ limits .variables * limits .blocks ∷ limits .blocks * (limits .dests * param-row) ∷ []
 
@@ -58,16 +63,14 @@ form-tables s =
     (λ i. s .next)  -- 0
     ∷ (λ i. s .makes)  -- 1
     ∷ upto (s .next) (s .target)  -- 2
-    ∷ upto (s .next) (λ x. sort-number (s .info x .sort))  -- 3
-    ∷ upto (s .next) (λ x. s .info x .type)  -- 4
-    ∷ upto (s .next) (λ x. s .info x .home)  -- 5
-    ∷ cell (s .placed)  -- 6
-    ∷ cell (firsts (s .zeros))  -- 7: the calls
-    ∷ cell (seconds (s .zeros))  -- 8: the blocks
-    ∷ rows param-row (s .params)  -- 9
-    ∷ rows param-row (λ b. firsts (s .pending b))  -- 10: the variables
-    ∷ grid (limits .blocks) (λ v b. plus-one (def s v b))  -- 11
-    ∷ rows param-row (λ r. s .args (r / limits .dests) (r % limits .dests))  -- 12
+    ∷ upto (s .next) (λ x. described (s .info x))  -- 3
+    ∷ cell (s .placed)  -- 4
+    ∷ cell (firsts (s .zeros))  -- 5: the calls
+    ∷ cell (seconds (s .zeros))  -- 6: the blocks
+    ∷ rows param-row (s .params)  -- 7
+    ∷ rows param-row (λ b. firsts (s .pending b))  -- 8: the variables
+    ∷ grid (limits .blocks) (λ v b. plus-one (def s v b))  -- 9
+    ∷ rows param-row (λ r. s .args (r / limits .dests) (r % limits .dests))  -- 10
     ∷ []
 
 -- A scheduled call in two cells: 0 and the block to read at; or the parameter plus one and its block.

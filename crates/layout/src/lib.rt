@@ -29,13 +29,9 @@ pub const MADE_COUNT: usize = VALUE_COUNT + 1;
 
 pub const TARGET: usize = MADE_COUNT + 1;
 
-pub const SORT: usize = TARGET + entity::VALUE_ROOM;
+pub const DESCRIBED: usize = TARGET + entity::VALUE_ROOM;
 
-pub const TYPE: usize = SORT + entity::VALUE_ROOM;
-
-pub const BLOCK: usize = TYPE + entity::VALUE_ROOM;
-
-pub const PLACED: usize = BLOCK + entity::VALUE_ROOM;
+pub const PLACED: usize = DESCRIBED + entity::VALUE_ROOM;
 
 pub const ZERO_CALLS: usize = PLACED + entity::PRED_ROW;
 
@@ -71,16 +67,14 @@ pub fn graph_starts() -> [usize; 7]
     ]
 }
 
-pub fn form_starts() -> [usize; 14]
+pub fn form_starts() -> [usize; 12]
     ensures { λ r. ⌜ r ≡ starts form-sizes ⌝ }
 {
     [
         VALUE_COUNT,
         MADE_COUNT,
         TARGET,
-        SORT,
-        TYPE,
-        BLOCK,
+        DESCRIBED,
         PLACED,
         ZERO_CALLS,
         ZERO_BLOCKS,

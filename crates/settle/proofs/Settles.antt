@@ -9,6 +9,7 @@ use lib.Dec.{eqb}
 use lib.ListN.{length, drop}
 use Rattle.entity.specs.declared.Value.{Value}
 use Rattle.entity.specs.Limits.{limits}
+use Rattle.entity.specs.Types.{type-count}
 use Rattle.definition.specs.Base.{every, without}
 use Rattle.definition.specs.Form.{Graph, Form, Sort, nought, with-args}
 use Rattle.definition.specs.Read.{Got, resolve, settle, settle-left, feed-all, set-params, alias, make, log-zero, place-block}
@@ -42,10 +43,10 @@ module _ (fl : List ℕ) (c : Counts) (x b : ℕ) (s : Form) (h : Can-zero fl c 
       pub zero-make : Can-make fl₂ c (log-zero (c .call) b (place-block b s))
       zero-make = record { shows = record { cells = L (place-block b s) zero-log; next = h .make .shows .next }; room = h .make .room; fresh = h .make .fresh }
 
-      pub zero-made : (fl₃ : List ℕ) (ty m : ℕ) → ((s : Form) → Has-value fl x s → ty ≡ s .info x .type)
+      pub zero-made : (fl₃ : List ℕ) (ty m : ℕ) → ((s : Form) → Has-value fl x s → s .info x .type < type-count → ty ≡ s .info x .type)
           → ((s : Form) → Can-make fl₂ c s → (k : Sort) → m ≡ sort-number k → Shows fl₃ (more c) (make k ty b s)) → m ≡ sort-number nought → Shows fl₃ (more c) (zeroed (c .call) x b s)
       zero-made fl₃ ty m T M e =
-          subst (λ (t : ℕ). Shows fl₃ (more c) (make nought t b (log-zero (c .call) b (place-block b s)))) (T s zero-type)
+          subst (λ (t : ℕ). Shows fl₃ (more c) (make nought t b (log-zero (c .call) b (place-block b s)))) (T s zero-type (h .typed))
           (M (log-zero (c .call) b (place-block b s)) zero-make nought e)
 
 -- ---- another name
@@ -100,6 +101,8 @@ module _ (gl fl wl : List ℕ) (c : Counts) (x b : ℕ) (g : Graph) (s : Form) (
   can-zero = record {
     make = record { shows = h .shows; room = h .settles .room; fresh = h .settles .fresh };
     there = h .settles .there;
+    typed = h .settles .typed;
+    known = block-known;
     log = h .settles .zeros;
     placed = h .settles .placed;
     place = h .settles .place;

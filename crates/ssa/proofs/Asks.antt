@@ -76,6 +76,7 @@ module _ (g : Graph) (G : Sound g) (B : Bounds g) (v : ℕ) (lv : v < length (g 
         record {
           known = r .block;
           there = r .value;
+          typed = t .info x (r .value) .1;
           room = r .next;
           fresh = t .unused (s .next) (omega arith);
           targets = t .targets;
