@@ -1,9 +1,10 @@
-// What a session leaves, line by line. Cells are read through `cell`, which answers 0 past the end, so that no count and no offset can lead astray.
+// What a session leaves, line by line. Cells are read through `raw`, which answers 0 past the end, so that no count and no offset can lead astray.
 use crate::out::begin;
 use crate::out::byte;
 use crate::out::end_line;
 use crate::out::end_list;
 use crate::out::number;
+use entity::Described;
 
 pub mod out;
 
@@ -17,14 +18,18 @@ fn wide(x: u32) -> usize {
     x as usize
 }
 
-fn cell(t: &[u32], start: usize, i: usize) -> usize {
+fn raw(t: &[u32], start: usize, i: usize) -> u32 {
     if t.len() <= start {
         return 0;
     }
     if t.len() - start <= i {
         return 0;
     }
-    wide(t[start + i])
+    t[start + i]
+}
+
+fn cell(t: &[u32], start: usize, i: usize) -> usize {
+    wide(raw(t, start, i))
 }
 
 // Where row i starts of a table of rows of parameters, pending variables or arguments.
@@ -116,10 +121,11 @@ fn answers(out: &mut [u8], n: usize, codes: &[u32], numbers: &[u32], k: usize) -
 }
 
 fn value(out: &mut [u8], n: usize, form: &[u32], i: usize) -> usize {
+    let d = Described::from_cell(raw(form, layout::DESCRIBED, i));
     let mut m = begin(out, n, b'V', i);
-    m = number(out, m, cell(form, layout::SORT, i));
-    m = number(out, m, cell(form, layout::TYPE, i));
-    m = number(out, m, cell(form, layout::BLOCK, i));
+    m = number(out, m, wide(d.sort));
+    m = number(out, m, wide(d.ty));
+    m = number(out, m, wide(d.block.0));
     m = number(out, m, cell(form, layout::TARGET, i));
     end_line(out, m)
 }
