@@ -39,10 +39,10 @@ module _ (l : List ℕ) (v b : ℕ) where
   definition-is s p = p .cells .at 9 (v * limits .blocks + b) (omega (arith, p .var, p .known)) ∙ grid-at (limits .blocks) (λ w d. plus-one (def s w d)) v b (p .known)
 
   module _ (s : Form) (p : Has-def l v b s) where
-    pub no-definition : getD l (base form-sizes 11 + (v * limits .blocks + b)) 0 ≡ 0 → none ≡ def s v b
+    pub no-definition : getD l (base form-sizes 9 + (v * limits .blocks + b)) 0 ≡ 0 → none ≡ def s v b
     no-definition = none-of (def s v b) (definition-is s p)
 
-    pub the-definition : (getD l (base form-sizes 11 + (v * limits .blocks + b)) 0 ≡ 0 → ⊥) → some (getD l (base form-sizes 11 + (v * limits .blocks + b)) 0 - 1) ≡ def s v b
+    pub the-definition : (getD l (base form-sizes 9 + (v * limits .blocks + b)) 0 ≡ 0 → ⊥) → some (getD l (base form-sizes 9 + (v * limits .blocks + b)) 0 - 1) ≡ def s v b
     the-definition = some-of (def s v b) (definition-is s p)
 
   module _ (x : ℕ) where
