@@ -32,18 +32,22 @@ fn misfit(tells: impl Fn(u32) -> u32) -> Option<Misfit> {
     asked.find(|row| row.here != row.there)
 }
 
+/// What was found out, by asking once.
+fn asked() -> &'static Option<Misfit> {
+    static ASKED: OnceLock<Option<Misfit>> = OnceLock::new();
+    ASKED.get_or_init(|| misfit(raw::limit))
+}
+
 /// Was the linked library built for the same limits as this package?
 ///
-/// Everything here asks that before its first call and panics if it doesn't hold. A host that would rather tell its user
-/// asks first.
+/// Everything here asks that before its first call and panics if it doesn't hold. A host that would rather tell its user asks first.
 pub fn check() -> Result<(), Misfit> {
-    static ASKED: OnceLock<Option<Misfit>> = OnceLock::new();
-    ASKED.get_or_init(|| misfit(raw::limit)).map_or(Ok(()), Err)
+    asked().map_or(Ok(()), Err)
 }
 
 /// Stops here rather than read wrong tables.
 pub(crate) fn must_fit() {
-    if let Err(misfit) = check() {
+    if let Some(misfit) = asked() {
         panic!("{misfit}");
     }
 }
