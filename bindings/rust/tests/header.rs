@@ -42,6 +42,10 @@ fn numbered() -> [Vec<(String, usize)>; 4] {
     ]
 }
 
+fn ending_in(header: &BTreeMap<String, usize>, end: &str, number: usize) -> Option<String> {
+    header.iter().find(|(name, value)| name.ends_with(end) && **value == number).map(|(name, _)| name.clone())
+}
+
 #[test]
 fn the_constants_are_the_headers() {
     let mut expected = header();
@@ -56,15 +60,9 @@ fn the_constants_are_the_headers() {
         assert_eq!(expected.remove(&name), Some(number), "{name}");
     }
     for set in numbered() {
-        let there = set.iter().filter(|(name, number)| {
-            let found = expected
-                .iter()
-                .find(|(header, value)| header.ends_with(name.as_str()) && *value == number)
-                .map(|(header, _)| header.clone());
-            found.is_some_and(|header| expected.remove(&header).is_some())
-        });
-        let there = there.count();
-        assert!(there == 0 || there == set.len(), "{there} of {set:?}");
+        let found: Vec<String> = set.iter().filter_map(|(name, number)| ending_in(&expected, name, *number)).collect();
+        assert!(found.is_empty() || found.len() == set.len(), "only {found:?}");
+        expected.retain(|name, _| !found.contains(name));
     }
     assert!(expected.is_empty(), "not here: {expected:?}");
 }
