@@ -142,8 +142,8 @@ module _ {ts : List ℕ} {x at : ℕ} (e : Same-end ts x at) where
   pub same-end-inside : at < length ts
   same-end-inside = left-in-list (ends-counted (e .2) .1)
 
-  pub same-end-here : getD ts at 0 ≡ at → Ends ts x at
-  same-end-here p = rw (end-of-fixed (e .2) p) at (e .1)
+  pub same-end-here : getD ts at 0 ≡ at → Ends ts x (getD ts at 0)
+  same-end-here p = rw (end-of-fixed (e .2) p ∙ sym p) at (e .1)
 
   module _ (q : getD ts at 0 ≡ at → ⊥) where
     pub same-end-on : Same-end ts x (getD ts at 0)

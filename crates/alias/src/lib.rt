@@ -40,16 +40,18 @@ pub fn resolve(targets: &[u32], value: Value) -> Answer
 }
 
 // The end of a walk that is known to end: a load and a test for each link, and one of each to see the end.
+// The walk goes from place to place, not from number to number: each load then waits for the one before it and for no widening between.
 pub fn follow(targets: &[u32], value: Value) -> Value
     requires { ⌜ ((y : ℕ) × Ends (now targets) (value .0) y) ⌝ }
     ensures { λ r. ⌜ Ends (now (targets .entry)) (value .0) (r .0) ⌝ }
 {
-    let mut at = value.0;
+    let mut at = value.0 as usize;
     loop {
-        let target = targets[at as usize];
-        if target == at {
-            return Value(at);
+        let target = targets[at];
+        let place = target as usize;
+        if place == at {
+            return Value(target);
         }
-        at = target;
+        at = place;
     }
 }

@@ -1,6 +1,7 @@
 -- `follow` meets its contract: the walks from `value` and from `at` end at the same value, and the links left from `at` fall with each turn.
 -- Assumes nothing.
 use borrow.Author.Needs.{needs}
+use native.Mathlib.Omega.{arith}
 use lib.ListN.{length}
 use Rattle.alias.proofs.Walks.{links-left, Same-end, same-end-inside, same-end-here, same-end-on, fewer-links-left}
 use Rattle.alias.proofs.follow.Statement.{statement}
@@ -12,17 +13,20 @@ Inv-loop targets at₀ at = Same-end targets at₀ at
 abbrev μ-loop : tie.MeasureT-loop
 μ-loop targets at₀ at = links-left (length targets) targets at
 
-loop-holds : tie.Need-loop-holds Inv-loop μ-loop
-loop-holds c = (c .pre .0, c .pre .1, c .pre .1)
+cast-at : tie.Need-cast-at Inv-loop μ-loop
+cast-at c = search needs
 
-cast-target : tie.Need-cast-target Inv-loop μ-loop
-cast-target c = search (needs, same-end-inside (c .loop .inv))
+loop-holds : tie.Need-loop-holds Inv-loop μ-loop
+loop-holds c = let p = c .before .pre in (p .0, p .1, p .1)
 
 mul-target : tie.Need-mul-target Inv-loop μ-loop
 mul-target c = search (needs, same-end-inside (c .loop .inv))
 
 shared-slice-read-target : tie.Need-shared-slice-read-target Inv-loop μ-loop
 shared-slice-read-target c = same-end-inside (c .before .loop .inv)
+
+cast-place : tie.Need-cast-place Inv-loop μ-loop
+cast-place c = omega (arith, c .shared-slice-known .given (c .before .loop .at))
 
 returns : tie.Need-returns Inv-loop μ-loop
 returns c = same-end-here (c .before .before .loop .inv) (c .if1 .taken)
@@ -39,10 +43,11 @@ follow-spec =
     (tie.spec
     Inv-loop
     μ-loop
+    cast-at
     loop-holds
-    cast-target
     mul-target
     shared-slice-read-target
+    cast-place
     returns
     loop-less
     loop-again)
