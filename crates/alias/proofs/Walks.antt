@@ -21,6 +21,10 @@ end-unique (here h p) r = sym (end-of-fixed r p)
 end-unique (on h r) (here g p) = end-of-fixed (on h r) p
 end-unique (on h r) (on g s) = end-unique r s
 
+ends-on : {ts : List ℕ} {x y : ℕ} → Ends ts x y → (getD ts x 0 ≡ x → ⊥) → Ends ts (getD ts x 0) y
+ends-on (here h p) q = absurd (q p)
+ends-on (on h r) q = r
+
 -- ---- and it is near
 
 -- n steps from x to an end, none of which starts at an end
@@ -102,6 +106,56 @@ module _ {ts : List ℕ} {x at i : ℕ} (w : Walked ts x at i) where
           (b .0, omega arith, b .2);
     }
 
+-- ---- a walk that is known to end
+
+-- the links left from x, counted to n at most
+step-left : {A : Type 0} → Dec A → ℕ → ℕ
+step-left (yes p) n = zero
+step-left (no q) n = suc n
+
+pub links-left : ℕ → List ℕ → ℕ → ℕ
+links-left zero ts x = zero
+links-left (suc n) ts x = step-left (ℕ-discrete (getD ts x 0) x) (links-left n ts (getD ts x 0))
+
+no-step-left : {A : Type 0} (d : Dec A) (n : ℕ) → A → step-left d n ≡ 0
+unfolding step-left
+no-step-left (yes p) n a = refl
+no-step-left (no q) n a = absurd (q a)
+
+one-step-more : {A : Type 0} (d : Dec A) (n : ℕ) → (A → ⊥) → step-left d n ≡ suc n
+unfolding step-left
+one-step-more (yes p) n f = absurd (f p)
+one-step-more (no q) n f = refl
+
+links-counted : {ts : List ℕ} {x k : ℕ} → Left ts x k → (n : ℕ) → k ≤ n → links-left n ts x ≡ k
+unfolding links-left
+links-counted (none h p) zero g = refl
+links-counted (none h p) (suc n) g = no-step-left _ _ p
+links-counted (more h q s) zero g = absurd (omega arith)
+links-counted (more h q s) (suc n) g = one-step-more _ _ q ∙ ap suc (links-counted s n (omega arith))
+
+-- the walks from x and from `at` end at the same value
+abbrev pub Same-end : List ℕ → ℕ → ℕ → Type 0
+Same-end ts x at = (y : ℕ) × Ends ts x y × Ends ts at y
+
+module _ {ts : List ℕ} {x at : ℕ} (e : Same-end ts x at) where
+  pub same-end-inside : at < length ts
+  same-end-inside = left-in-list (ends-counted (e .2) .1)
+
+  pub same-end-here : getD ts at 0 ≡ at → Ends ts x (getD ts at 0)
+  same-end-here p = rw (end-of-fixed (e .2) p ∙ sym p) at (e .1)
+
+  module _ (q : getD ts at 0 ≡ at → ⊥) where
+    pub same-end-on : Same-end ts x (getD ts at 0)
+    same-end-on = (e .0, e .1, ends-on (e .2) q)
+
+    pub fewer-links-left : links-left (length ts) ts (getD ts at 0) < links-left (length ts) ts at
+    fewer-links-left =
+        let s = ends-counted (e .2) .1 in
+        let r = left-next s q in
+        let near = left-below-length s in
+        omega (arith, links-counted s (length ts) (omega arith), links-counted (r .2) (length ts) (omega (arith, r .1)), r .1)
+
 -- ---- what resolving answers
 
 pub resolved-unique : {ts : List ℕ} {x c n d m : ℕ} → Resolved ts x c n → Resolved ts x d m → (c ≡ d) × (n ≡ m)
@@ -114,9 +168,6 @@ resolved-unique (ends r) (lost g q) = absurd (q _ r)
 resolved-unique (lost g q) (past h) = absurd (omega arith)
 resolved-unique (lost g q) (ends r) = absurd (q _ r)
 resolved-unique (lost g q) (lost h r) = (refl, refl)
-
-pub resolve-ends : {ts : List ℕ} {x y c n : ℕ} → Resolved ts x c n → Ends ts x y → (c ≡ 0) × (n ≡ y)
-resolve-ends r e = resolved-unique r (ends e)
 
 abbrev Answered : List ℕ → ℕ → Type 0
 Answered ts x = (c : ℕ) × (n : ℕ) × Resolved ts x c n

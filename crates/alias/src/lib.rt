@@ -1,5 +1,6 @@
 // Resolving an alias over a lent list of targets.
-ghost use Rattle.definition.specs.Resolve.{Resolved};
+ghost use Prim.Native.Nat.{ℕ};
+ghost use Rattle.definition.specs.Resolve.{Ends, Resolved};
 use entity::Value;
 
 // Code 0 with the number found; 6 for a number past the list and 14 for a walk without an end, each with number 0.
@@ -35,5 +36,22 @@ pub fn resolve(targets: &[u32], value: Value) -> Answer
     Answer {
         code: 14,
         number: 0,
+    }
+}
+
+// The end of a walk that is known to end: a load and a test for each link, and one of each to see the end.
+// The walk goes from place to place, not from number to number: each load then waits for the one before it and for no widening between.
+pub fn follow(targets: &[u32], value: Value) -> Value
+    requires { ⌜ ((y : ℕ) × Ends (now targets) (value .0) y) ⌝ }
+    ensures { λ r. ⌜ Ends (now (targets .entry)) (value .0) (r .0) ⌝ }
+{
+    let mut at = value.0 as usize;
+    loop {
+        let target = targets[at];
+        let place = target as usize;
+        if place == at {
+            return Value(target);
+        }
+        at = place;
     }
 }

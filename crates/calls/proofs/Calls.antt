@@ -15,7 +15,7 @@ use Rattle.meaning.proofs.Steady.{steady-of}
 use Rattle.layout.proofs.Cells.{below?}
 use Rattle.layout.specs.declared.Counts.{Counts}
 use Rattle.graph.specs.Seen.{Graph-with, Seen}
-use Rattle.form.specs.Can.{Ex, Cells}
+use Rattle.form.specs.Can.{Cells}
 use Rattle.reply.specs.declared.Reply.{Reply}
 use Rattle.reply.specs.Replies.{Some-state, refusal, acceptance}
 use Rattle.reply.proofs.Asked.{seen}
@@ -62,9 +62,6 @@ module _ {gl fl wl : List ℕ} {c : Counts} (p : State-with (Between gl fl wl c)
 
   pub seen-some : Graph-with (Seen gl)
   seen-some = (p .0 .graph, seen-of (p .1))
-
-  pub cells-some : Ex (Cells fl)
-  cells-some = (p .0 .form, cells-of (p .1))
 
 -- the lengths of the log before and after give what was added
 pub difference : {m n a b : ℕ} → m ≡ a → n ≡ b → m - n ≡ a - b

@@ -1,5 +1,4 @@
 // The kinds of call that bring something in: blocks, variables, values, definitions, branches. The checks of docs/RULES.md in its order, then the change.
-ghost use mathlib.Core.Path.{_≡_};
 ghost use mathlib.Core.List.{List};
 ghost use Prim.Native.Nat.{ℕ};
 ghost use Rattle.entity.specs.Options.{value-of};
@@ -106,7 +105,14 @@ pub fn define(graph: &[u32], form: &mut [u32], c: Counts, x: u32, y: u32, z: u32
 }
 
 // Kind 5. The value comes from an earlier call: w is that use's answer, and none where the call was no accepted use.
-pub fn define_answer(graph: &[u32], form: &mut [u32], c: Counts, x: u32, z: u32, w: OptionValue) -> Reply
+pub fn define_answer(
+    graph: &[u32],
+    form: &mut [u32],
+    c: Counts,
+    x: u32,
+    z: u32,
+    w: OptionValue,
+) -> Reply
     requires { ⌜ Some-state (now graph) (now form) c ⌝ }
     ensures { λ r. ⌜ Answers (now (graph .entry)) (now (form .entry)) (now (graph .entry)) (now (form .exit)) c r
         (λ g s. define-answer g s x z (value-of w)) ⌝ }

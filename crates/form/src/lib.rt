@@ -16,8 +16,8 @@ ghost use Rattle.form.specs.Can.{Cells, Ex, Can-make, Can-count, Has-val
 ghost use Rattle.form.specs.Can.{Has-def, Recorded, Can-wait, Has-pending, Lists, Taken, Can-log, Has-placed, Can-place};
 use entity::Block;
 use entity::Branch;
-use entity::OptionValue;
 use entity::Described;
+use entity::OptionValue;
 use entity::PARAM_ROW;
 use entity::Value;
 use entity::Variable;

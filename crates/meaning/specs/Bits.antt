@@ -26,7 +26,8 @@ module _ (t : State) where
   pub record Zeros-typed : Type 0 where
     -- Each zero in the tables has a type ty, and wherever a path enters its block it holds the bits of ty's zero.
     pub zeros : (z : Value) → z < t .form .next → t .form .info z .sort ≡ nought → (ty : «Type») × (type-with (t .form .info z .type) ≡ Is ty)
-        × ((fresh : ℕ → ℕ → ℕ) (any : ℕ → ℕ) (bs : List ℕ) (m : Mem ℕ zero-with t) → At-bits fresh any bs (t .form .info z .home) m → m .val z ≡ zero-of ty)
+        × ((fresh : ℕ → ℕ → ℕ) (any : ℕ → ℕ) (bs : List ℕ) (m : Mem ℕ zero-with t) → At-bits fresh any bs (t .form .info z .home) m
+        → m .val z ≡ zero-of ty)
     -- Each variable has a type ty, and where a path starts it holds the bits of ty's zero.
     pub variables : (v : Variable) → v < length (t .graph .types) → (ty : «Type») × (type-with (type-of (t .graph) v) ≡ Is ty)
         × ((fresh : ℕ → ℕ → ℕ) (any : ℕ → ℕ) (m : Mem ℕ zero-with t) → At-bits fresh any [] 0 m → m .var v ≡ zero-of ty)

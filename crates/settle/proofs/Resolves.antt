@@ -10,9 +10,9 @@ use Rattle.entity.specs.Limits.{limits, value-room}
 use Rattle.definition.specs.Base.{upFrom}
 use Rattle.definition.specs.Form.{Form}
 use Rattle.definition.specs.Read.{resolve}
-use Rattle.definition.specs.Resolve.{Ends, here, on, Resolved, targets}
+use Rattle.definition.specs.Resolve.{Ends, here, on, targets}
 use Rattle.meaning.proofs.Chains.{up-length, up-at}
-use Rattle.alias.proofs.Walks.{resolve-ends}
+use Rattle.alias.proofs.Walks.{end-unique}
 use Rattle.layout.specs.declared.Counts.{Counts}
 use Rattle.layout.specs.Cells.{base}
 use Rattle.layout.specs.Layout.{form-sizes, form-tables}
@@ -40,8 +40,16 @@ module _ (l : List ℕ) (c : Counts) (x : ℕ) (s : Form) (h : Can-resolve l c x
           getD-take n (drop (base form-sizes 2) l) i 0 ln ∙ getD-drop (base form-sizes 2) l i 0
           ∙ column-at form-sizes l (form-tables s) 2 (h .shows .cells) (s .next) (s .target) refl i li (h .few) ∙ sym (up-at (s .target) 0 (s .next) i li ∙ ap (s .target) (omega arith))
 
-  pub resolved : {code y : ℕ} → Resolved (take (base form-sizes 2 + c .values - base form-sizes 2) (drop (base form-sizes 2) l)) x code y
-      → (y < value-room limits) × (y ≡ resolve s x)
+  abbrev part : List ℕ
+  part = take (base form-sizes 2 + c .values - base form-sizes 2) (drop (base form-sizes 2) l)
+
+  lent-part : part ≡ targets s
+  lent-part = part-is (base form-sizes 2 + c .values - base form-sizes 2) (omega (arith, h .shows .next))
+
+  pub part-ends : (y : ℕ) × Ends part x y
+  part-ends = (resolve s x, rw lent-part (h .chain))
+
+  pub resolved : {y : ℕ} → Ends part x y → (y < value-room limits) × (y ≡ resolve s x)
   resolved r =
-      let y-is = resolve-ends (rw (part-is (base form-sizes 2 + c .values - base form-sizes 2) (omega (arith, h .shows .next))) at r) (h .chain) .1 in
+      let y-is = end-unique (rw lent-part at r) (h .chain) in
       (omega (arith, y-is, ends-inside (h .chain), targets-length s, h .few), y-is)

@@ -30,15 +30,14 @@ pub enum Agreement {
     Many,
 }
 
-// The value that this one is a name of, itself for none. Every chain of names ends, so the answer's code is 0.
+// The value that this one is a name of, itself for none. Every chain of names ends, so there is nothing to test but that.
 fn resolve_aliases(form: &[u32], c: Counts, val: Value) -> Value
     requires { ⌜ Ex (Can-resolve (now form) c (val .0)) ⌝ }
     ensures { λ r. ⌜ r .0 < value-room limits ⌝ }
     ensures { λ r. ⌜ ((s : Form) → Can-resolve (now (form .entry)) c (val .0) s → r .0 ≡ resolve s (val .0)) ⌝ }
 {
     let end = TARGET + c.values as usize;
-    let a = alias::resolve(&form[TARGET..end], val);
-    Value(a.number)
+    alias::follow(&form[TARGET..end], val)
 }
 
 // What the last n results say, resolved. The sentinel says nothing; the second value that differs decides.

@@ -10,7 +10,7 @@ returns : tie.Need-returns
 returns c = record {
   graph-empty = c .before .before .before .before .before .before .blank .ensures ∙ graph-blanked _;
   form-empty = c .before .before .blank2 .ensures ∙ form-blanked _;
-  }
+}
 
 pub clear-spec : {M : Type 1} → statement M
 clear-spec =

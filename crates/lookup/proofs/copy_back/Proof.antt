@@ -37,7 +37,7 @@ loop-again : tie.Need-loop-again Inv-loop μ-loop
 loop-again c = (
   c .before .before .before .before .before .before .record-def .kept .0 ∙ c .before .before .before .before .before .before .before .before .before .before .before .loop .inv .0,
   copy-next (c .before .before .before .before .before .before .before .before .if1 .taken) (c .before .before .before .before .before .before .before .before .before .before .before .loop .inv .1) (c .before .single .given .1) (c .before .before .before .single-predecessor .ensures) (c .before .before .before .before .before .before .record-def .ensures),
-  )
+)
 
 same-length-2 : tie.Need-same-length-2 Inv-loop μ-loop
 same-length-2 c = c .before .before .before .loop .inv .0

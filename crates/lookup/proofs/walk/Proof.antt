@@ -39,7 +39,7 @@ loop-again c = (
   step-has (c .before .before .before .before .before .before .before .before .before .loop .inv .0) (c .before .before .before .before .before .before .before .before .before .loop .inv .2) (c .before .before .before .before .before .before .single .given .1) (c .before .before .before .before .before .before .before .before .single-predecessor .ensures) (c .before .before .before .before .before .before .before .before .before .before .before .before .pre .2) .known,
   simp length-set (c .before .before .before .before .before .before .before .before .before .loop .inv .1),
   walk-turn (c .before .before .before .before .before .before .before .before .before .loop .inv .0) (c .before .before .before .before .before .before .before .before .before .loop .inv .2) (c .before .before .before .before .before .before .single .given .1) (c .before .before .before .before .before .before .before .before .single-predecessor .ensures) (c .before .before .before .if1 .left) (c .enum-told2 .given .1) (c .before .before .definition .ensures) (omega arith),
-  )
+)
 
 pub walk-spec : {M : Type 1} → statement M
 walk-spec =
