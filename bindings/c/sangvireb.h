@@ -1,5 +1,5 @@
 /* The public calls of Sangvireb, for C. Link target/staticlib/libexports.a, which `rt staticlib exports` writes.
- * What each call answers and leaves is proved in crates/session and crates/alias. A list is a pointer and a length. */
+ * What each call answers and leaves is proved in crates/session, crates/alias and crates/reader. A list is a pointer and a length. */
 #ifndef SANGVIREB_H
 #define SANGVIREB_H
 
@@ -45,7 +45,9 @@ enum {
     SANGVIREB_PENDING_ROWS = 61573,
     SANGVIREB_DEFS = 65733,
     SANGVIREB_ARG_ROWS = 69829,
-    SANGVIREB_PARAM_ROW = 65
+    SANGVIREB_PARAM_ROW = 65,
+    SANGVIREB_PARAM_CELLS = 4160,
+    SANGVIREB_ARG_CELLS = 33280
 };
 
 /* What a session itself answers. */
@@ -81,5 +83,19 @@ typedef struct {
 
 /* Follows alias targets from a value to one that is its own target. */
 sangvireb_answer sangvireb_resolve(const uint32_t *targets, size_t targets_len, uint32_t value);
+
+/* A row of the lent table, read where it lies: its entries are the `length` cells of the table from cell `start` on. Code SANGVIREB_ABSENT if the table hasn't
+ * the row, and then no entries, from 0 on; else code 0, so that a row that is there and empty can be told apart. */
+typedef struct {
+    uint32_t code;
+    size_t start;
+    size_t length;
+} sangvireb_row;
+
+/* The parameters of a block. Lent is the table of parameters: of a session's form the SANGVIREB_PARAM_CELLS cells from SANGVIREB_PARAM_ROWS on. */
+sangvireb_row sangvireb_params(const uint32_t *params, size_t params_len, uint32_t block);
+
+/* The arguments of a branch's destination by its place. Lent is the table of arguments: the SANGVIREB_ARG_CELLS cells from SANGVIREB_ARG_ROWS on. */
+sangvireb_row sangvireb_args(const uint32_t *args, size_t args_len, uint32_t branch, uint32_t place);
 
 #endif

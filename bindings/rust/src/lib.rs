@@ -4,7 +4,7 @@
 mod builder;
 mod list;
 mod number;
-#[allow(unsafe_code)] // the two calls into the library stand there and nowhere else
+#[allow(unsafe_code)] // the calls into the library stand there and nowhere else
 pub mod raw;
 mod readers;
 mod refusal;

@@ -1,8 +1,14 @@
 // What C and Rust link: the public calls under names of their own.
 ghost use Rattle.definition.specs.Resolve.{Resolved};
+ghost use Rattle.reader.specs.Rows.{Located};
+ghost use Rattle.reader.specs.declared.Asked.the-variants.{Params, Args};
 ghost use Rattle.turns.specs.Turns.{lent};
 ghost use Rattle.session.specs.Ends.{Ended};
+use entity::Block;
+use entity::Branch;
 use entity::Value;
+use reader::Asked;
+use reader::Span;
 
 // Code and number of a resolved alias, as C sees them.
 #[repr(C)]
@@ -41,4 +47,20 @@ pub extern "C" fn sangvireb_resolve(targets: &[u32], value: u32) -> SangvirebAns
         code: a.code,
         number: a.number,
     }
+}
+
+// The parameters of a block, in the lent table of parameters: crates/reader says where.
+#[no_mangle]
+pub extern "C" fn sangvireb_params(params: &[u32], block: u32) -> Span
+    ensures { λ r. ⌜ Located (now (params .entry)) (Params record { 0 = block }) (r .code) (r .start) (r .length) ⌝ }
+{
+    reader::locate(params, Asked::Params(Block(block)))
+}
+
+// The arguments of a branch's destination by its place, in the lent table of arguments.
+#[no_mangle]
+pub extern "C" fn sangvireb_args(args: &[u32], branch: u32, place: u32) -> Span
+    ensures { λ r. ⌜ Located (now (args .entry)) (Args record { 0 = branch } place) (r .code) (r .start) (r .length) ⌝ }
+{
+    reader::locate(args, Asked::Args(Branch(branch), place))
 }
