@@ -105,11 +105,14 @@ fn a_row_is_a_part_of_the_lent_table() {
     assert_eq!(row.as_ptr_range(), args[511 * raw::PARAM_ROW + 1..].as_ptr_range());
 }
 
+fn told<'a>(params: &'a [u32], args: &'a [u32], asked: Asked) -> (u32, &'a [u32]) {
+    (raw::row_code(params, args, asked), raw::row(params, args, asked))
+}
+
 #[test]
 fn a_row_that_is_not_there_is_told_from_an_empty_one() {
     let empty = vec![0; raw::ARG_CELLS + 1];
     let params = &empty[..raw::PARAM_CELLS];
-    let told = |params, args, asked| (raw::row_code(params, args, asked), raw::row(params, args, asked));
     assert_eq!(told(params, &empty, Asked::Params(Block(63))), (0, &[][..]));
     assert_eq!(told(&params[1..], &empty, Asked::Params(Block(63))), (6, &[][..]));
     let past = [Asked::Params(Block(64)), Asked::Args(Branch(64), 0), Asked::Args(Branch(0), 8), Asked::Args(Branch(u32::MAX), u32::MAX)];
