@@ -10,7 +10,7 @@ use Rattle.definition.specs.Session.{session}
 use Rattle.definition.specs.Whole.{calls}
 use Rattle.layout.specs.Outcome.{Lent}
 use Rattle.reader.specs.declared.Asked.{Asked}
-use Rattle.reader.specs.Rows.{named, code-of, Located, Row-of}
+use Rattle.reader.specs.Rows.{named, code-of, Located, Is-row}
 use Rattle.reader.specs.Left.{table-in, listed}
 use Rattle.reader.proofs.Shown.{rows-shown, row-shown}
 use Rattle.session.specs.Ends.{Ended}
@@ -18,7 +18,7 @@ use Rattle.session.proofs.Determined.{cells-show}
 
 module _ (ks xs ys zs : List ℕ) {before after : Lent} (h : Ended ks xs ys zs before after 0) (a : Asked) (n : named a ≡ true) where
   -- `row` and `row_code`, lent the table of the form that has the row
-  pub row-after : {t r : RefT (List ℕ)} {code : ℕ} → now t ≡ table-in (after .form) a → Row-of t a r → code ≡ code-of (now t) a
+  pub row-after : {t r : RefT (List ℕ)} {code : ℕ} → now t ≡ table-in (after .form) a → Is-row t a r → code ≡ code-of (now t) a
       → (now r ≡ listed (session (calls ks xs ys zs) .form) a) × (code ≡ 0)
   row-after = row-shown (calls ks xs ys zs) after (length ks) (cells-show ks xs ys zs h) a n
 

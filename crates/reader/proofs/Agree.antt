@@ -8,12 +8,12 @@ use native.Mathlib.Omega.{arith}
 use lib.ListN.{length, getD}
 use denote.Ref.{RefT, ptr, now}
 use Rattle.reader.specs.declared.Asked.{Asked}
-use Rattle.reader.specs.Rows.{head, known, code-of, Row-of}
+use Rattle.reader.specs.Rows.{head, known, code-of, Is-row}
 
-module _ {t : RefT (List ℕ)} {a : Asked} {r : RefT (List ℕ)} {code : ℕ} (p : Row-of t a r) (e : code ≡ code-of (now t) a) where
+module _ {t : RefT (List ℕ)} {a : Asked} {r : RefT (List ℕ)} {code : ℕ} (p : Is-row t a r) (e : code ≡ code-of (now t) a) where
   -- Any two answers that meet the promises are the same: the parts start in the same place and hold the same, and the codes are equal. (Besides, a
   -- reference has in the logic the name of its loan, which no program sees.)
-  pub determined : {r′ : RefT (List ℕ)} {code′ : ℕ} → Row-of t a r′ → code′ ≡ code-of (now t) a
+  pub determined : {r′ : RefT (List ℕ)} {code′ : ℕ} → Is-row t a r′ → code′ ≡ code-of (now t) a
       → (ptr r ≡ ptr r′) × (now r ≡ now r′) × (code ≡ code′)
   determined p′ e′ = (p .start ∙ sym (p′ .start), p .cells ∙ sym (p′ .cells), e ∙ sym e′)
 

@@ -16,7 +16,7 @@ use Rattle.definition.specs.Base.{_≤?_, if_then_else_}
 use Rattle.meaning.proofs.Maps.{and-both}
 use Rattle.layout.specs.Layout.{param-row}
 use Rattle.reader.specs.declared.Asked.{Asked}
-use Rattle.reader.specs.Rows.{named, number, head, known, row-of, Located, Row-of}
+use Rattle.reader.specs.Rows.{named, number, head, known, row-of, Located, Is-row}
 
 module _ (t : List ℕ) (a : Asked) where
   abbrev whole : Bool
@@ -72,7 +72,7 @@ module _ {a : Asked} {code s n : ℕ} where
 
   -- the part from cell s to cell s + n is the row
   pub located-part : {t : RefT (List ℕ)} {γ : GName} → Located (now t) a code s n
-      → Row-of t a record { ptr = (ptr t .0, s * 4 + ptr t .1); name = γ; now = take (s + n - s) (drop s (now t)) }
+      → Is-row t a record { ptr = (ptr t .0, s * 4 + ptr t .1); name = γ; now = take (s + n - s) (drop s (now t)) }
   located-part {t} f =
       let e : take (s + n - s) (drop s (now t)) ≡ take (row-of (now t) a .1) (drop (row-of (now t) a .0) (now t))
       = rw (add-sub-cancel-left, f .start-is, f .length-is) in

@@ -29,8 +29,8 @@ use Rattle.layout.proofs.Grids.{pair-at, row-among}
 use Rattle.layout.proofs.Rows.{row-count, row-entry}
 use Rattle.reader.specs.declared.Asked.{Asked}
 use Rattle.reader.specs.declared.Asked.the-variants.{Params, Args}
-use Rattle.reader.specs.Rows.{named, head, known, row-of, code-of, Row-of}
-use Rattle.reader.specs.Left.{place-of, table-in, listed}
+use Rattle.reader.specs.Rows.{named, head, known, row-of, code-of, Is-row}
+use Rattle.reader.specs.Left.{table-number, table-in, listed}
 use Rattle.reader.proofs.Known.{known-row}
 
 -- a row that holds a list is read as that list
@@ -74,11 +74,11 @@ holds-whole sizes l M h = record {
 module _ (g : Graph) (s : Form) (R : Rooms g s) (l : List ℕ) (h : Holds form-sizes l (form-tables s)) where
   -- every row that can be named is in the form's cells
   row-in-form : (a : Asked) → named a ≡ true
-      → (head a + param-row ≤ getD form-sizes (place-of a) 0) × Row l (base form-sizes (place-of a) + head a) param-row (listed s a)
+      → (head a + param-row ≤ getD form-sizes (table-number a) 0) × Row l (base form-sizes (table-number a) + head a) param-row (listed s a)
   row-in-form (Params b) n =
       let lt = ltb-true (b .0) (limits .blocks) n in (
         omega arith,
-        row-among form-sizes l (form-tables s) (place-of (Params b)) h param-row (s .params) (b .0) refl (omega arith)
+        row-among form-sizes l (form-tables s) (table-number (Params b)) h param-row (s .params) (b .0) refl (omega arith)
             (omega (arith, R .params (b .0))),
       )
   row-in-form (Args p i) n =
@@ -86,7 +86,7 @@ module _ (g : Graph) (s : Form) (R : Rooms g s) (l : List ℕ) (h : Holds form-s
       let li = ltb-true i (limits .dests) (q .1) in
       let lt = digits-lt (ltb-true (p .0) (limits .blocks) (q .0)) li in
       let c = p .0 * limits .dests + i in
-      let k = place-of (Args p i) in (
+      let k = table-number (Args p i) in (
         omega arith,
         subst (λ (xs : List ℕ). Row l (base form-sizes k + c * param-row) param-row xs) (pair-at (limits .dests) (s .args) (p .0) i li)
             (row-among form-sizes l (form-tables s) k h param-row (λ r. s .args (r / limits .dests) (r % limits .dests)) c refl (omega arith)
@@ -97,9 +97,9 @@ module _ (g : Graph) (s : Form) (R : Rooms g s) (l : List ℕ) (h : Holds form-s
   row-in-table : (a : Asked) → named a ≡ true → Row (table-in l a) (head a) param-row (listed s a)
   row-in-table a n =
       let q = row-in-form a n in
-      row-in-part l (listed s a) (base form-sizes (place-of a)) (getD form-sizes (place-of a) 0) (head a) param-row (table-fits a) (q .0) (q .1)
+      row-in-part l (listed s a) (base form-sizes (table-number a)) (getD form-sizes (table-number a) 0) (head a) param-row (table-fits a) (q .0) (q .1)
     where
-      table-fits : (a : Asked) → base form-sizes (place-of a) + getD form-sizes (place-of a) 0 ≤ length l
+      table-fits : (a : Asked) → base form-sizes (table-number a) + getD form-sizes (table-number a) 0 ≤ length l
       table-fits (Params b) = omega (arith, h .long)
       table-fits (Args p i) = omega (arith, h .long)
 
@@ -116,7 +116,7 @@ rows-shown cs left n e a is-named =
 
 -- So `row`, lent that table, answers the definition's list, and `row_code` 0: for every block below the limit, and every branch and place below theirs.
 pub row-shown : (cs : List Call) (left : Lent) (n : ℕ) → first (needs n) left ≡ shown (session cs) → (a : Asked) → named a ≡ true
-    → {t r : RefT (List ℕ)} {code : ℕ} → now t ≡ table-in (left .form) a → Row-of t a r → code ≡ code-of (now t) a
+    → {t r : RefT (List ℕ)} {code : ℕ} → now t ≡ table-in (left .form) a → Is-row t a r → code ≡ code-of (now t) a
     → (now r ≡ listed (session cs .form) a) × (code ≡ 0)
 row-shown cs left n e a is-named p q c =
     let shows = rows-shown cs left n e a is-named in

@@ -10,13 +10,13 @@ use Rattle.reader.specs.declared.Asked.{Asked}
 use Rattle.reader.specs.declared.Asked.the-variants.{Params, Args}
 use Rattle.reader.specs.Rows.{table-of}
 
--- the form's table to look in: parameters are its table 9, arguments its table 12
-abbrev pub place-of : Asked → ℕ
-place-of = table-of 9 12
+-- the form's table to look in: parameters are its table 9, arguments its table 12 (layout/specs/Layout)
+abbrev pub table-number : Asked → ℕ
+table-number = table-of 9 12
 
 -- that table, as the part of the form's cells that a host lends
 abbrev pub table-in : List ℕ → Asked → List ℕ
-table-in form a = take (getD form-sizes (place-of a) 0) (drop (base form-sizes (place-of a)) form)
+table-in form a = take (getD form-sizes (table-number a) 0) (drop (base form-sizes (table-number a)) form)
 
 -- the list asked for
 abbrev pub listed : Form → Asked → List ℕ

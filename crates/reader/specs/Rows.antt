@@ -31,7 +31,7 @@ number (Args p i) = p .0 * limits .dests + i
 abbrev pub head : Asked → ℕ
 head a = number a * param-row
 
--- Has table t the row? The whole row lies in it, and the count is no more than the row's room.
+-- Has table t the row? Its numbers are below the limits, the whole row lies in the table, and its count is no more than its room.
 abbrev pub known : List ℕ → Asked → Bool
 known t a = named a && head a + param-row ≤? length t && getD t (head a) 0 ≤? param-room limits
 
@@ -49,7 +49,7 @@ pub record Located (t : List ℕ) (a : Asked) (code start length : ℕ) : Type 0
   pub length-is : length ≡ row-of t a .1
 
 -- r is the row of t that is asked for: not only does it hold the same, it is those cells, in their place. A cell has four bytes.
-pub record Row-of (t : RefT (List ℕ)) (a : Asked) (r : RefT (List ℕ)) : Type 0 where
+pub record Is-row (t : RefT (List ℕ)) (a : Asked) (r : RefT (List ℕ)) : Type 0 where
   pub start : ptr r ≡ (ptr t .0, row-of (now t) a .0 * 4 + ptr t .1)
   pub long : length (now r) ≡ row-of (now t) a .1
   pub cells : now r ≡ take (row-of (now t) a .1) (drop (row-of (now t) a .0) (now t))

@@ -1,7 +1,7 @@
 // Rows of finished tables, read where they lie: a block's parameters, or the arguments of a destination. Nothing is copied, and no call has a loop.
 ghost use mathlib.Core.Path.{_≡_};
 ghost use Prim.Native.Nat.{_<_, _^_};
-ghost use Rattle.reader.specs.Rows.{Located, Row-of, code-of, named, number, table-of};
+ghost use Rattle.reader.specs.Rows.{Located, Is-row, code-of, named, number, table-of};
 use entity::Block;
 use entity::Branch;
 
@@ -11,7 +11,7 @@ pub enum Asked {
     Args(Branch, u32),
 }
 
-// Where the entries of a row lie in its table. With code 6 there is no such row, and no entry.
+// Where the entries of a row lie in its table. With code 6 there is no such row, and no entry. Laid out for C, which gets it as it is.
 #[repr(C)]
 pub struct Span {
     pub code: u32,
@@ -69,7 +69,7 @@ pub fn locate(table: &[u32], asked: Asked) -> Span
 
 // The row as a part of its own table.
 fn part<'a>(table: &'a [u32], asked: Asked) -> &'a [u32]
-    ensures { λ r. ⌜ Row-of (table .entry) asked r ⌝ }
+    ensures { λ r. ⌜ Is-row (table .entry) asked r ⌝ }
 {
     let span = locate(table, asked);
     let start = span.start;
@@ -79,7 +79,7 @@ fn part<'a>(table: &'a [u32], asked: Asked) -> &'a [u32]
 
 // The row itself, a part of the table that has it; an empty part if there is no such row.
 pub fn row<'a>(params: &'a [u32], args: &'a [u32], asked: Asked) -> &'a [u32]
-    ensures { λ r. ⌜ Row-of (table-of (params .entry) (args .entry) asked) asked r ⌝ }
+    ensures { λ r. ⌜ Is-row (table-of (params .entry) (args .entry) asked) asked r ⌝ }
 {
     match asked {
         Asked::Params(_) => part(params, asked),

@@ -1,7 +1,7 @@
 -- `named` meets its contract: the tests are those of its definition.
 -- Assumes nothing.
 use borrow.Author.Needs.{needs}
-use mathlib.Core.Path.{_≡_, refl, sym, ap, _∙_}
+use mathlib.Core.Path.{sym, ap}
 use borrow.Author.Tests.{lt-ltb, le-ltb}
 use Rattle.reader.specs.Rows.{named}
 use Rattle.reader.proofs.named.Statement.{statement}
