@@ -132,4 +132,12 @@ mod tests {
         assert_eq!(named, "form cell 65733: last definitions of variable 0, block 0: the oracle has 1, the library 513");
         assert_eq!(cells::name(3, 69_829 + 65 * 13 + 2), "form cell 70676: arguments of branch 1, destination 5, entry 1");
     }
+
+    #[test]
+    fn a_row_that_the_oracle_has_otherwise_is_a_difference() {
+        let mut both = Both::new(8);
+        assert_eq!(both.difference(&[[1, 0, 0, 0], [2, 0, 2, 0], [6, 0, 0, 0]]), None);
+        both.expected.rows.insert(Asked::Params(Block(0)), vec![]);
+        assert_eq!(both.differing_row().expect("it differs"), "Params(Block(0)): the oracle has [], the library [0] with code 0");
+    }
 }
