@@ -1,8 +1,10 @@
 // A line of numbers, read byte by byte.
 
-// The line's place from 1, how many numbers it has so far and the last four of them, d the latest.
 pub struct Line {
+    // The line's number, and that of its latest byte, both from 1.
     pub place: u64,
+    pub column: u64,
+    // How many numbers it has so far and the last four of them, d the latest.
     pub count: u32,
     // Does the next digit belong to d?
     pub open: bool,
@@ -10,12 +12,25 @@ pub struct Line {
     pub b: u32,
     pub c: u32,
     pub d: u32,
-    // Was a byte met that no line may have, or a number too large?
-    pub bad: bool,
+    // What is wrong with its latest byte, and that byte.
+    pub fault: u32,
+    pub byte: u8,
 }
 
+// Nothing is wrong.
+pub const FINE: u32 = 0;
+
+// A byte that no line may have.
+pub const STRANGE: u32 = 1;
+
+// A digit that makes the number too large.
+pub const LARGE: u32 = 2;
+
+// A digit that begins one number too many.
+pub const MANY: u32 = 3;
+
 // No number has this value or more.
-const ABOVE: u64 = 4294967296;
+pub const ABOVE: u64 = 4294967296;
 
 // A call is a kind and three numbers.
 pub const MOST: u32 = 4;
@@ -24,29 +39,33 @@ pub const MOST: u32 = 4;
 pub fn first() -> Line {
     Line {
         place: 1,
+        column: 0,
         count: 0,
         open: false,
         a: 0,
         b: 0,
         c: 0,
         d: 0,
-        bad: false,
+        fault: FINE,
+        byte: 0,
     }
 }
 
-// The line after this one. Should the count of lines ever be used up, it stays.
+// Should a count of lines or of bytes ever be used up, it stays.
+fn next(n: u64) -> u64 {
+    if n < u64::MAX { n + 1 } else { n }
+}
+
+// The line after this one.
 pub fn after(l: Line) -> Line {
     let mut n = first();
-    n.place = l.place;
-    if n.place < u64::MAX {
-        n.place = n.place + 1;
-    }
+    n.place = next(l.place);
     n
 }
 
-fn spoilt(l: Line) -> Line {
+fn spoilt(l: Line, fault: u32) -> Line {
     let mut n = l;
-    n.bad = true;
+    n.fault = fault;
     n
 }
 
@@ -60,7 +79,7 @@ fn longer(d: u32, digit: u8) -> u64 {
 fn more(l: Line, digit: u8) -> Line {
     let n = longer(l.d, digit);
     if ABOVE <= n {
-        return spoilt(l);
+        return spoilt(l, LARGE);
     }
     let mut m = l;
     m.d = n as u32;
@@ -70,7 +89,7 @@ fn more(l: Line, digit: u8) -> Line {
 // A number's first digit. The fifth number of a line is one too many.
 fn fresh(l: Line, digit: u8) -> Line {
     if MOST <= l.count {
-        return spoilt(l);
+        return spoilt(l, MANY);
     }
     let mut m = l;
     m.count = l.count + 1;
@@ -82,18 +101,25 @@ fn fresh(l: Line, digit: u8) -> Line {
     m
 }
 
+fn taken(l: Line, byte: u8) -> Line {
+    let mut m = l;
+    m.column = next(l.column);
+    m.byte = byte;
+    m
+}
+
 // The line with one byte more, which is not its end.
 pub fn with(l: Line, byte: u8) -> Line {
+    let mut m = taken(l, byte);
     if byte == b' ' || byte == b'\t' || byte == b'\r' {
-        let mut m = l;
         m.open = false;
         return m;
     }
     if byte < b'0' || b'9' < byte {
-        return spoilt(l);
+        return spoilt(m, STRANGE);
     }
     if l.open {
-        return more(l, byte - b'0');
+        return more(m, byte - b'0');
     }
-    fresh(l, byte - b'0')
+    fresh(m, byte - b'0')
 }
