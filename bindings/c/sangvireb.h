@@ -1,5 +1,5 @@
 /* The public calls of Sangvireb, for C and C++. Link target/staticlib/libexports.a, which `rt staticlib exports` writes; README.md has the command.
- * What each call answers and leaves is proved in crates/session, crates/alias and crates/exports; docs/RULES.md says it in words.
+ * What each call answers and leaves is proved in crates/session, crates/alias, crates/reader and crates/exports; docs/RULES.md says it in words.
  *
  * A list is a pointer and a length. What a call is lent must be there for the call: as many cells as its length says, and no cell in two lists,
  * neither in two of those that are changed nor in one that is changed and one that is read. A list of length 0 may be NULL.
@@ -54,7 +54,9 @@ enum {
     SANGVIREB_PENDING_ROWS = 36997,
     SANGVIREB_DEFS = 41157,
     SANGVIREB_ARG_ROWS = 45253,
-    SANGVIREB_PARAM_ROW = 65
+    SANGVIREB_PARAM_ROW = 65,
+    SANGVIREB_PARAM_CELLS = 4160,
+    SANGVIREB_ARG_CELLS = 33280
 };
 
 /* Kinds of call, with their x, y, z (docs/RULES.md has the refusals and answers). */
@@ -126,6 +128,20 @@ typedef struct {
 
 /* Follows alias targets from a value to one that is its own target. */
 sangvireb_answer sangvireb_resolve(const uint32_t *targets, size_t targets_len, uint32_t value);
+
+/* A row of the lent table, read where it lies: its entries are the `length` cells of the table from cell `start` on. Code SANGVIREB_ABSENT if the table hasn't
+ * the row, and then no entries, from 0 on; else code 0, so that a row that is there and empty can be told apart. */
+typedef struct {
+    uint32_t code;
+    size_t start;
+    size_t length;
+} sangvireb_row;
+
+/* The parameters of a block. Lent is the table of parameters: of a session's form the SANGVIREB_PARAM_CELLS cells from SANGVIREB_PARAM_ROWS on. */
+sangvireb_row sangvireb_params(const uint32_t *params, size_t params_len, uint32_t block);
+
+/* The arguments of a branch's destination by its place. Lent is the table of arguments: the SANGVIREB_ARG_CELLS cells from SANGVIREB_ARG_ROWS on. */
+sangvireb_row sangvireb_args(const uint32_t *args, size_t args_len, uint32_t branch, uint32_t place);
 
 /* What the linked library was built for, by these places; 0 for any other place. */
 enum {

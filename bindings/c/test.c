@@ -1,4 +1,4 @@
-/* Two branches give a reading different values; after the join a parameter stands for it. Then the refusals of a whole session, and resolving. */
+/* Two branches give a reading different values; after the join a parameter stands for it. Then the refusals of a whole session, rows and resolving. */
 #include "sangvireb.h"
 #include <stdio.h>
 #include <string.h>
@@ -40,8 +40,9 @@ int main(void) {
     expect(r == SANGVIREB_RUN, "the session runs");
     expect(codes[N - 2] == 0 && numbers[N - 2] == 2, "the use after the join answers the parameter, value 2");
     expect(codes[N - 1] == SANGVIREB_ABSENT && numbers[N - 1] == 0, "an unknown variable gets 6 and number 0");
-    const uint32_t *params = form + SANGVIREB_PARAM_ROWS + 3 * SANGVIREB_PARAM_ROW;
-    expect(params[0] == 1 && params[1] == 2, "block 3 has the parameter 2");
+    uint32_t *params = form + SANGVIREB_PARAM_ROWS, *args = form + SANGVIREB_ARG_ROWS;
+    sangvireb_row row = sangvireb_params(params, SANGVIREB_PARAM_CELLS, 3);
+    expect(row.code == 0 && row.length == 1 && params[row.start] == 2, "block 3 has the parameter 2");
     static const uint32_t values[][2] = {{0, 1}, {0, 2}, {1, 3}};
     for (uint32_t v = 0; v < 3; v++) {
         uint32_t cell = form[SANGVIREB_DESCRIBED + v];
@@ -51,9 +52,17 @@ int main(void) {
     expect(SANGVIREB_TYPE_OF(0xffffffff) == 31 && SANGVIREB_SORT_OF(0xffffffff) == 3 && SANGVIREB_BLOCK_OF(0xff7f) == 255,
            "the parts of a cell end where the next begins");
     for (uint32_t p = 1; p <= 2; p++) {
-        const uint32_t *args = form + SANGVIREB_ARG_ROWS + p * SANGVIREB_DESTS * SANGVIREB_PARAM_ROW;
-        expect(args[0] == 1 && args[1] == p - 1, "each side passes its own value");
+        row = sangvireb_args(args, SANGVIREB_ARG_CELLS, p, 0);
+        expect(row.code == 0 && row.length == 1 && args[row.start] == p - 1, "each side passes its own value");
     }
+    row = sangvireb_params(params, SANGVIREB_PARAM_CELLS, SANGVIREB_BLOCKS - 1);
+    expect(row.code == 0 && row.length == 0 && row.start == SANGVIREB_PARAM_CELLS - SANGVIREB_PARAM_ROW + 1, "a row that is there and empty gets 0");
+    row = sangvireb_params(params, SANGVIREB_PARAM_CELLS - 1, SANGVIREB_BLOCKS - 1);
+    expect(row.code == SANGVIREB_ABSENT && row.start == 0 && row.length == 0, "a row that is not whole in the table gets 6 and is empty");
+    row = sangvireb_params(params, SANGVIREB_PARAM_CELLS, SANGVIREB_BLOCKS);
+    expect(row.code == SANGVIREB_ABSENT && row.length == 0, "a block past the limit gets 6");
+    row = sangvireb_args(args, SANGVIREB_ARG_CELLS, 1, SANGVIREB_DESTS);
+    expect(row.code == SANGVIREB_ABSENT && row.length == 0, "a place past the limit gets 6, though the table goes on");
     expect(work[0] == 0 && work[SANGVIREB_WORK_NEED - 1] == 0, "work cells end as 0");
     expect(form[SANGVIREB_FORM_NEED] == 0xa5a5a5a5, "cells past the need keep what they held");
 
@@ -74,6 +83,9 @@ int main(void) {
     expect(a.code == SANGVIREB_ABSENT && a.number == 0, "a number past the list gets 6");
     a = sangvireb_resolve(NULL, 0, 0);
     expect(a.code == SANGVIREB_ABSENT && a.number == 0, "nothing is in a list of length 0");
+    args[0] = SANGVIREB_VARIABLES + 1;
+    row = sangvireb_args(args, SANGVIREB_ARG_CELLS, 0, 0);
+    expect(row.code == SANGVIREB_ABSENT && row.length == 0, "a count past the row's room gets 6");
     printf("%s\n", failures ? "failed" : "all as expected");
     return failures != 0;
 }

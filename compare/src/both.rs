@@ -5,7 +5,8 @@ use lists::lent::Lent;
 use lists::rng::Rng;
 use lists::{Call, MAX_CALLS};
 use oracle::hook::Heights;
-use sangvireb::raw::{RUN, UNFIT};
+use sangvireb::raw::{self, Asked, RUN, UNFIT};
+use sangvireb::{Block, Branch};
 
 /// Room for scheduled calls and results: the bounds of docs/RULES.md, which the layout of `work` also gives.
 const HIGHEST: Heights = Heights { scheduled: 576, results: 513 };
@@ -57,7 +58,7 @@ impl Both {
             return Some(why);
         }
         self.expected.types(calls);
-        self.differing_cell()
+        self.differing_cell().or_else(|| self.differing_row())
     }
 
     /// Too many calls: answer 2, and everything as it was.
@@ -67,6 +68,19 @@ impl Both {
             return Some(format!("the session answers {session} instead of {UNFIT}"));
         }
         (0..5).find_map(|t| self.lent.first_changed(t, 0).map(|cell| format!("{}: changed although the session was refused", cells::name(t, cell))))
+    }
+
+    /// Every row below the limits, read through the library's own call: the oracle's list, or empty where the oracle names none.
+    fn differing_row(&self) -> Option<String> {
+        let form = self.lent.form();
+        let (params, args) = (&form[raw::PARAM_ROWS..][..raw::PARAM_CELLS], &form[raw::ARG_ROWS..][..raw::ARG_CELLS]);
+        let destinations = |block| (0..raw::DESTS as u32).map(move |place| Asked::Args(Branch(block), place));
+        let mut all = (0..raw::BLOCKS as u32).flat_map(|block| destinations(block).chain([Asked::Params(Block(block))]));
+        all.find_map(|asked| {
+            let (row, code) = (raw::row(params, args, asked), raw::row_code(params, args, asked));
+            let due: &[u32] = self.expected.rows.get(&asked).map_or(&[], |list| list);
+            (row != due || code != 0).then(|| format!("{asked:?}: the oracle has {due:?}, the library {row:?} with code {code}"))
+        })
     }
 
     fn differing_cell(&self) -> Option<String> {
@@ -117,5 +131,13 @@ mod tests {
         let named = changed(3, |_| 65_733).expect("it differs");
         assert_eq!(named, "form cell 65733: last definitions of variable 0, block 0: the oracle has 1, the library 513");
         assert_eq!(cells::name(3, 69_829 + 65 * 13 + 2), "form cell 70676: arguments of branch 1, destination 5, entry 1");
+    }
+
+    #[test]
+    fn a_row_that_the_oracle_has_otherwise_is_a_difference() {
+        let mut both = Both::new(8);
+        assert_eq!(both.difference(&[[1, 0, 0, 0], [2, 0, 2, 0], [6, 0, 0, 0]]), None);
+        both.expected.rows.insert(Asked::Params(Block(0)), vec![]);
+        assert_eq!(both.differing_row().expect("it differs"), "Params(Block(0)): the oracle has [], the library [0] with code 0");
     }
 }

@@ -1,5 +1,7 @@
 //! The cells that a session must leave, from the oracle's dump: docs/LAYOUT.md read in the other direction.
 use sangvireb::raw::*;
+use sangvireb::{Block, Branch};
+use std::collections::HashMap;
 
 /// What must be in the needed cells; the work cells must all be 0.
 pub struct Expected {
@@ -8,11 +10,14 @@ pub struct Expected {
     pub graph: Vec<u32>,
     pub form: Vec<u32>,
     work: Vec<u32>,
+    /// the lists of parameters and arguments that the oracle names
+    pub rows: HashMap<Asked, Vec<u32>>,
 }
 
 impl Expected {
     pub fn new() -> Expected {
-        Expected { codes: vec![], numbers: vec![], graph: vec![0; GRAPH_NEED], form: vec![0; FORM_NEED], work: vec![0; WORK_NEED] }
+        let (graph, form, work) = (vec![0; GRAPH_NEED], vec![0; FORM_NEED], vec![0; WORK_NEED]);
+        Expected { codes: vec![], numbers: vec![], graph, form, work, rows: HashMap::new() }
     }
 
     /// In the order in which the tables are lent.
@@ -23,6 +28,7 @@ impl Expected {
     pub fn read(&mut self, dump: &str, calls: usize) -> Result<(), String> {
         self.graph.fill(0);
         self.form.fill(0);
+        self.rows.clear();
         for answers in [&mut self.codes, &mut self.numbers] {
             answers.clear();
             answers.resize(calls, 0);
@@ -49,7 +55,10 @@ impl Expected {
                 self.form[TARGET + value] = target as u32;
                 self.form[DESCRIBED + value] = (kind + 32 * (sort + 4 * 2 * block)) as u32;
             }
-            ("P", [block, params @ ..]) => row(&mut self.form, PARAM_ROWS + PARAM_ROW * block, params),
+            ("P", [block, params @ ..]) => {
+                row(&mut self.form, PARAM_ROWS + PARAM_ROW * block, params);
+                self.listed(Asked::Params(Block(*block as u32)), params);
+            }
             ("B", &[block, dests]) => {
                 self.graph[BRANCHES + block] = 1;
                 self.graph[DEST_ROWS + DEST_ROW * block] = dests as u32;
@@ -57,6 +66,7 @@ impl Expected {
             ("D", [block, place, dest, args @ ..]) => {
                 self.graph[DEST_ROWS + DEST_ROW * block + 1 + place] = *dest as u32;
                 row(&mut self.form, ARG_ROWS + PARAM_ROW * (DESTS * block + place), args);
+                self.listed(Asked::Args(Branch(*block as u32), *place as u32), args);
             }
             ("R", [block, preds @ ..]) => row(&mut self.graph, PRED_ROWS + PRED_ROW * block, preds),
             ("U", [block, pending @ ..]) => row(&mut self.form, PENDING_ROWS + PARAM_ROW * block, pending),
@@ -70,6 +80,10 @@ impl Expected {
             _ => return None,
         }
         Some(())
+    }
+
+    fn listed(&mut self, asked: Asked, entries: &[usize]) {
+        self.rows.insert(asked, entries.iter().map(|&entry| entry as u32).collect());
     }
 
     fn counts(&mut self, blocks: usize, vars: usize, values: usize, made: usize, zeros: usize) {

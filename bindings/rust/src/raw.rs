@@ -3,7 +3,7 @@
 //! This is for hosts that keep their own tables. Every limit and offset of this package stands here and nowhere else.
 //! docs/LAYOUT.md says what each cell holds. The names are those of bindings/c/sangvireb.h, and a test holds the two together;
 //! the limits are also asked of the library itself ([`TOLD`]), before its first use.
-use crate::{library, Kind, Sort, Type};
+use crate::{library, Block, Branch, Kind, Sort, Type};
 
 /// The version of the library's calls that this package was written for.
 pub const VERSION: u32 = 1;
@@ -64,14 +64,18 @@ pub const ZERO_CALLS: usize = PLACED + PRED_ROW;
 pub const ZERO_BLOCKS: usize = ZERO_CALLS + ZERO_ROW;
 /// In `form`: a row of parameters for each block.
 pub const PARAM_ROWS: usize = ZERO_BLOCKS + ZERO_ROW;
+/// Cells of the table of parameters.
+pub const PARAM_CELLS: usize = BLOCKS * PARAM_ROW;
 /// In `form`: a row of pending variables for each block.
-pub const PENDING_ROWS: usize = PARAM_ROWS + BLOCKS * PARAM_ROW;
+pub const PENDING_ROWS: usize = PARAM_ROWS + PARAM_CELLS;
 /// In `form`: the last definitions, value plus one, by variable and then by block.
 pub const DEFS: usize = PENDING_ROWS + BLOCKS * PARAM_ROW;
 /// In `form`: a row of arguments for each destination of each block's branch.
 pub const ARG_ROWS: usize = DEFS + VARIABLES * BLOCKS;
+/// Cells of the table of arguments.
+pub const ARG_CELLS: usize = BLOCKS * DESTS * PARAM_ROW;
 /// Cells that `form` needs.
-pub const FORM_NEED: usize = ARG_ROWS + BLOCKS * DESTS * PARAM_ROW;
+pub const FORM_NEED: usize = ARG_ROWS + ARG_CELLS;
 
 /// Cells that `work` needs: two for each scheduled call, one for each result.
 pub const WORK_NEED: usize = 2 * BLOCKS * (1 + DESTS) + BLOCKS * DESTS + 1;
@@ -110,6 +114,14 @@ struct Answer {
     number: u32,
 }
 
+/// Where a row's entries lie in its table.
+#[repr(C)]
+struct Span {
+    code: u32,
+    start: usize,
+    length: usize,
+}
+
 // As in bindings/c/sangvireb.h: a list is a pointer and a length.
 extern "C" {
     fn sangvireb_session(
@@ -133,6 +145,8 @@ extern "C" {
         work_len: usize,
     ) -> u32;
     fn sangvireb_resolve(targets: *const u32, targets_len: usize, value: u32) -> Answer;
+    fn sangvireb_params(params: *const u32, params_len: usize, block: u32) -> Span;
+    fn sangvireb_args(args: *const u32, args_len: usize, branch: u32, place: u32) -> Span;
     fn sangvireb_limit(which: u32) -> u32;
 }
 
@@ -194,6 +208,45 @@ pub fn resolve(targets: &[u32], value: u32) -> (u32, u32) {
     // SAFETY: the proved contract has no precondition, and the pair is the slice's own pointer and length, which is only read.
     let answer = unsafe { sangvireb_resolve(targets.as_ptr(), targets.len(), value) };
     (answer.code, answer.number)
+}
+
+/// What [`row`] is asked for.
+#[derive(Clone, Copy, PartialEq, Eq, Hash, Debug)]
+pub enum Asked {
+    /// The parameters of a block.
+    Params(Block),
+    /// The arguments of a branch's destination, by its place.
+    Args(Branch, u32),
+}
+
+/// The table to look in, and where the row lies there.
+fn locate<'a>(params: &'a [u32], args: &'a [u32], asked: Asked) -> (&'a [u32], Span) {
+    library::must_fit();
+    // SAFETY: the proved contracts have no precondition, and each pair is a slice's own pointer and length, which is only read.
+    match asked {
+        Asked::Params(block) => (params, unsafe { sangvireb_params(params.as_ptr(), params.len(), block.0) }),
+        Asked::Args(branch, place) => (args, unsafe { sangvireb_args(args.as_ptr(), args.len(), branch.0, place) }),
+    }
+}
+
+/// The row itself, a part of the table of parameters or of the table of arguments, whatever they hold: nothing is copied. An empty part if there is no such
+/// row: a number is not below its limit, the row is not whole in the table, or its count is past its room.
+///
+/// # Panics
+///
+/// If the library that is linked was built for other limits ([`check`](crate::check)).
+pub fn row<'a>(params: &'a [u32], args: &'a [u32], asked: Asked) -> &'a [u32] {
+    let (table, span) = locate(params, args, asked);
+    &table[span.start..][..span.length]
+}
+
+/// 6 if there is no such row, else 0: so a row that is there and empty can be told apart.
+///
+/// # Panics
+///
+/// If the library that is linked was built for other limits ([`check`](crate::check)).
+pub fn row_code(params: &[u32], args: &[u32], asked: Asked) -> u32 {
+    locate(params, args, asked).1.code
 }
 
 /// What the library tells of itself: `which` counts the rows of [`TOLD`]; past them it answers 0.

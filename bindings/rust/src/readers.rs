@@ -1,6 +1,7 @@
 //! Reading the tables that a session left. A number that names nothing there is [`Absent`](Refusal::Absent), so that a wrong number shows.
 use crate::explain::Named;
-use crate::{raw, Block, Branch, Refused, Session, Sort, Type, Value, Variable};
+use crate::raw::{self, Asked};
+use crate::{Block, Branch, Refused, Session, Sort, Type, Value, Variable};
 use std::iter::{Copied, Map};
 use std::slice::Iter;
 
@@ -40,7 +41,8 @@ impl<'a> Destination<'a> {
     }
 }
 
-/// A row is its count and then its entries. No count exceeds its row's room (`rooms-suffice`).
+/// A row of the tables that the library itself does not read out: destinations, predecessors, pending variables, blocks placed, the zero log. It is its count
+/// and then its entries. No count exceeds its row's room (`rooms-suffice`).
 fn row<T>(cells: &[u32], start: usize, read: fn(u32) -> T) -> Row<'_, T> {
     let count = cells[start] as usize;
     cells[start + 1..][..count].iter().copied().map(read)
@@ -126,7 +128,7 @@ impl Session {
         self.there(Named::Branch(branch.0))?;
         let place = branch.0 as usize;
         let targets = row(&self.graph, raw::DEST_ROWS + place * raw::DEST_ROW, Block);
-        let args = move |dest| row(&self.form, raw::ARG_ROWS + (place * raw::DESTS + dest) * raw::PARAM_ROW, Value);
+        let args = move |dest| self.listed(Asked::Args(branch, dest as u32));
         Ok(targets.enumerate().map(move |(dest, target)| Destination { target, args: args(dest), session: self }))
     }
 
@@ -137,7 +139,14 @@ impl Session {
 
     /// The block's parameters, in order.
     pub fn params(&self, block: Block) -> Result<Row<'_, Value>, Refused> {
-        Ok(row(&self.form, raw::PARAM_ROWS + self.block(block)? * raw::PARAM_ROW, Value))
+        self.block(block)?;
+        Ok(self.listed(Asked::Params(block)))
+    }
+
+    /// A row that the library reads out, a part of the form.
+    fn listed(&self, asked: Asked) -> Row<'_, Value> {
+        let table = |start, cells| &self.form[start..][..cells];
+        raw::row(table(raw::PARAM_ROWS, raw::PARAM_CELLS), table(raw::ARG_ROWS, raw::ARG_CELLS), asked).iter().copied().map(Value)
     }
 
     /// The variables that wait for the block to be sealed. Their parameters are the last of the block's, in the same order.

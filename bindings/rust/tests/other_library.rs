@@ -12,8 +12,11 @@ fn other_library() -> PathBuf {
     let source = format!(
         "#include <stdint.h>
         typedef struct {{ uint32_t code, number; }} answer;
+        typedef struct {{ uint32_t code; uint64_t start, length; }} row;
         uint32_t sangvireb_session(void) {{ return 0; }}
         answer sangvireb_resolve(void) {{ return (answer){{0, 0}}; }}
+        row sangvireb_params(void) {{ return (row){{0, 0, 0}}; }}
+        row sangvireb_args(void) {{ return (row){{0, 0, 0}}; }}
         uint32_t sangvireb_limit(uint32_t which) {{
             static const uint32_t told[] = {{{}}};
             return which == 1 ? 256 : told[which];

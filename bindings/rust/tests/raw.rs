@@ -1,5 +1,6 @@
 //! The library's own calls: whole refusals leave all as it was, garbage in the tables counts for nothing, cells past the need are kept.
-use sangvireb::raw;
+use sangvireb::raw::{self, Asked};
+use sangvireb::{Block, Branch};
 
 const GARBAGE: u32 = 0xa5a5_a5a5;
 /// Case B of docs/RULES.md: declare block 0 and the I32 variable 0, use it there, seal.
@@ -92,4 +93,33 @@ fn resolving_over_any_list() {
     assert_eq!(raw::resolve(&targets, 5), (14, 0));
     assert_eq!(raw::resolve(&targets, 6), (6, 0));
     assert_eq!(raw::resolve(&[], 0), (6, 0));
+}
+
+#[test]
+fn a_row_is_a_part_of_the_lent_table() {
+    let params = vec![2; raw::PARAM_CELLS];
+    let args = vec![raw::VARIABLES as u32; raw::ARG_CELLS];
+    let row = raw::row(&params, &args, Asked::Params(Block(3)));
+    assert_eq!(row.as_ptr_range(), params[3 * raw::PARAM_ROW + 1..][..2].as_ptr_range());
+    let row = raw::row(&params, &args, Asked::Args(Branch(63), 7));
+    assert_eq!(row.as_ptr_range(), args[511 * raw::PARAM_ROW + 1..].as_ptr_range());
+}
+
+fn told<'a>(params: &'a [u32], args: &'a [u32], asked: Asked) -> (u32, &'a [u32]) {
+    (raw::row_code(params, args, asked), raw::row(params, args, asked))
+}
+
+#[test]
+fn a_row_that_is_not_there_is_told_from_an_empty_one() {
+    let empty = vec![0; raw::ARG_CELLS + 1];
+    let params = &empty[..raw::PARAM_CELLS];
+    assert_eq!(told(params, &empty, Asked::Params(Block(63))), (0, &[][..]));
+    assert_eq!(told(&params[1..], &empty, Asked::Params(Block(63))), (6, &[][..]));
+    let past = [Asked::Params(Block(64)), Asked::Args(Branch(64), 0), Asked::Args(Branch(0), 8), Asked::Args(Branch(u32::MAX), u32::MAX)];
+    for asked in past {
+        assert_eq!(told(&empty, &empty, asked), (6, &[][..]));
+    }
+    for count in [raw::VARIABLES as u32 + 1, u32::MAX] {
+        assert_eq!(told(&[], &[count; raw::ARG_CELLS], Asked::Args(Branch(0), 0)), (6, &[][..]));
+    }
 }

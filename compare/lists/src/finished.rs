@@ -2,6 +2,7 @@
 use crate::Call;
 use crate::lent::Lent;
 use sangvireb::raw::{self, *};
+use sangvireb::{Block, Branch};
 
 pub struct Finished<'a> {
     pub calls: &'a [Call],
@@ -48,12 +49,16 @@ impl<'a> Finished<'a> {
     }
 
     pub fn params(&self, b: u32) -> &'a [u32] {
-        row(self.form, PARAM_ROWS + PARAM_ROW * b as usize)
+        self.listed(Asked::Params(Block(b)))
     }
 
     /// The arguments of the branch's destination at this place.
     pub fn args(&self, branch: u32, place: usize) -> &'a [u32] {
-        row(self.form, ARG_ROWS + PARAM_ROW * (DESTS * branch as usize + place))
+        self.listed(Asked::Args(Branch(branch), place as u32))
+    }
+
+    fn listed(&self, asked: Asked) -> &'a [u32] {
+        raw::row(&self.form[PARAM_ROWS..][..PARAM_CELLS], &self.form[ARG_ROWS..][..ARG_CELLS], asked)
     }
 
     pub fn is_zero_of(&self, value: u32, block: u32) -> bool {

@@ -4,7 +4,9 @@ use crate::lent::{TABLES, needs};
 use crate::progress::Progress;
 use crate::rng::Rng;
 use crate::{Call, MAX_CALLS, limits, odd};
-use sangvireb::raw;
+use sangvireb::raw::{self, Asked};
+use sangvireb::{Block, Branch};
+use std::ops::Range;
 use std::os::unix::process::ExitStatusExt;
 use std::process::{Command, ExitCode};
 
@@ -27,6 +29,8 @@ struct Figures {
     /// sessions that answered 0, 1, 2
     sessions: [u64; 3],
     resolved: [u64; 3],
+    /// rows with entries, empty rows, no row
+    rows: [u64; 3],
 }
 
 fn calls(rng: &mut Rng) -> Vec<Call> {
@@ -225,6 +229,74 @@ fn resolve_round(field: &mut Field, rng: &mut Rng, figures: &mut Figures) -> Res
     Ok(())
 }
 
+/// What docs/RULES.md says of a row, taken literally: where its entries lie in its table, if it is there.
+fn row_due(table: &[u32], asked: Asked) -> Option<Range<usize>> {
+    let below = |number: u32, limit: usize| Some(number as usize).filter(|&number| number < limit);
+    let number = match asked {
+        Asked::Params(block) => below(block.0, raw::BLOCKS)?,
+        Asked::Args(branch, place) => below(branch.0, raw::BLOCKS)? * raw::DESTS + below(place, raw::DESTS)?,
+    };
+    let row = table.chunks_exact(raw::PARAM_ROW).nth(number)?;
+    let count = below(row[0], raw::PARAM_ROW)?;
+    let start = number * raw::PARAM_ROW + 1;
+    Some(start..start + count)
+}
+
+/// Cells for a table of rows: anything; where counts stand, mostly some that are right or just past the room.
+fn rows(right: usize, rng: &mut Rng) -> Vec<u32> {
+    let mut cells = garbage(length(right, rng), rng);
+    if rng.chance(3, 4) {
+        let room = raw::VARIABLES as u32;
+        cells.iter_mut().step_by(raw::PARAM_ROW).for_each(|count| *count = rng.pick(&[0, 1, 2, room - 1, room, room + 1, u32::MAX]));
+    }
+    cells
+}
+
+fn asked(rng: &mut Rng) -> Asked {
+    let mut number = |limit: usize| match rng.below(16) {
+        0 => limit as u32,
+        1 => rng.any(),
+        2 => u32::MAX,
+        3..=5 => limit as u32 - 1,
+        _ => rng.below(limit as u32),
+    };
+    let (block, place) = (number(raw::BLOCKS), number(raw::DESTS));
+    if rng.chance(1, 2) { Asked::Params(Block(block)) } else { Asked::Args(Branch(block), place) }
+}
+
+/// The row is that part of the lent cells and no copy, and the code goes with it.
+fn check_row(lent: [&[u32]; 2], asked: Asked, figures: &mut Figures) -> Result<(), String> {
+    let [params, args] = lent;
+    let table = if let Asked::Params(_) = asked { params } else { args };
+    let due = row_due(table, asked);
+    let part = &table[due.clone().unwrap_or(0..0)];
+    let (row, code) = (raw::row(params, args, asked), raw::row_code(params, args, asked));
+    if row.as_ptr_range() != part.as_ptr_range() || code != if due.is_some() { 0 } else { 6 } {
+        return Err(format!("{asked:?} in a table of {} cells: code {code} and {} entries, due {due:?}", table.len(), row.len()));
+    }
+    figures.rows[if due.is_none() { 2 } else { row.is_empty() as usize }] += 1;
+    Ok(())
+}
+
+fn row_round(field: &mut Field, rng: &mut Rng, figures: &mut Figures) -> Result<(), String> {
+    let tables = [rows(raw::PARAM_CELLS, rng), rows(raw::ARG_CELLS, rng)];
+    let [long, also_long] = tables.each_ref().map(Vec::len);
+    let [params, .., args, _] = &mut field.grounds; // the second is the form's, which has room for all arguments
+    for side in [Side::Start, Side::End] {
+        let around = rng.any();
+        params.fill(&tables[0], around, side);
+        args.fill(&tables[1], around, side);
+        for _ in 0..16 {
+            check_row([params.lend(long, side), args.lend(also_long, side)], asked(rng), figures)?;
+        }
+        let kept = params.lend(long, side) == tables[0] && args.lend(also_long, side) == tables[1];
+        if !kept || !params.kept_around(long, around, side) || !args.kept_around(also_long, around, side) {
+            return Err("reading rows changed something".to_string());
+        }
+    }
+    Ok(())
+}
+
 /// The command that a child runs to show that a step too far is noticed.
 pub const OVERSTEP: &str = "overstep";
 
@@ -256,7 +328,9 @@ pub fn run(rounds: u64, seed: u64, heap: bool) -> ExitCode {
     let mut progress = Progress::new(rounds);
     for number in 0..rounds {
         let mut rng = Rng::nth(seed, number);
-        let held = round(&mut field, &mut rng, &mut figures).and_then(|()| resolve_round(&mut field, &mut rng, &mut figures));
+        let held = round(&mut field, &mut rng, &mut figures)
+            .and_then(|()| resolve_round(&mut field, &mut rng, &mut figures))
+            .and_then(|()| row_round(&mut field, &mut rng, &mut figures));
         if let Err(what) = held {
             println!("round {number} of seed {seed}: {what}");
             return ExitCode::FAILURE;
@@ -271,9 +345,11 @@ pub fn run(rounds: u64, seed: u64, heap: bool) -> ExitCode {
 fn summary(figures: &Figures, heap: bool) {
     let [ran, short, unfit] = figures.sessions;
     let [ended, past, lost] = figures.resolved;
+    let [full, empty, none] = figures.rows;
     let ground = if heap { "from the heap, each list of exactly its length" } else { "between closed pages; a read past either end was shown to be stopped" };
     println!("lent {ground}");
     println!("{} rounds, {} calls; sessions that answered 0: {ran}, 1: {short}, 2: {unfit}", figures.rounds, figures.calls);
     println!("resolving answered 0: {ended}, 6: {past}, 14: {lost}");
+    println!("rows with entries: {full}, empty: {empty}, not there: {none}");
     println!("nothing outside what was lent was touched, and every answer is as it must be");
 }

@@ -2,10 +2,16 @@
 ghost use mathlib.Core.Path.{_≡_};
 ghost use Rattle.definition.specs.Resolve.{Resolved};
 ghost use Rattle.layout.specs.Outcome.{lent};
+ghost use Rattle.reader.specs.Rows.{Located};
+ghost use Rattle.reader.specs.declared.Asked.the-variants.{Params, Args};
 ghost use Rattle.session.specs.Ends.{Ended};
 ghost use Rattle.exports.specs.Told.{told};
+use entity::Block;
+use entity::Branch;
 use entity::Type;
 use entity::Value;
+use reader::Asked;
+use reader::Span;
 
 // Raised when an exported call takes, answers or leaves something else: a host built for another version refuses to start.
 pub const VERSION: u32 = 1;
@@ -68,6 +74,22 @@ pub extern "C" fn sangvireb_resolve(targets: &[u32], value: u32) -> SangvirebAns
         code: a.code,
         number: a.number,
     }
+}
+
+// The parameters of a block, in the lent table of parameters: crates/reader says where.
+#[no_mangle]
+pub extern "C" fn sangvireb_params(params: &[u32], block: u32) -> Span
+    ensures { λ r. ⌜ Located (now (params .entry)) (Params record { 0 = block }) (r .code) (r .start) (r .length) ⌝ }
+{
+    reader::locate(params, Asked::Params(Block(block)))
+}
+
+// The arguments of a branch's destination by its place, in the lent table of arguments.
+#[no_mangle]
+pub extern "C" fn sangvireb_args(args: &[u32], branch: u32, place: u32) -> Span
+    ensures { λ r. ⌜ Located (now (args .entry)) (Args record { 0 = branch } place) (r .code) (r .start) (r .length) ⌝ }
+{
+    reader::locate(args, Asked::Args(Branch(branch), place))
 }
 
 // Tells a host what this library was built for. The places keep their meaning from version to version; a place past them gets 0.

@@ -1,0 +1,30 @@
+-- What a host reads by rows after an accepted session is the definition's: the promises of `session` and `row` put together.
+-- Assumes nothing.
+use Prim.Native.Nat.{ℕ}
+use mathlib.Core.Path.{_≡_, _∙_}
+use mathlib.Core.Bool.{true}
+use mathlib.Core.List.{List}
+use lib.ListN.{length, take, drop}
+use denote.Ref.{RefT, now}
+use Rattle.definition.specs.Session.{session}
+use Rattle.definition.specs.Whole.{calls}
+use Rattle.layout.specs.Outcome.{Lent}
+use Rattle.reader.specs.declared.Asked.{Asked}
+use Rattle.reader.specs.Rows.{named, code-of, Located, Is-row}
+use Rattle.reader.specs.Left.{table-in, listed}
+use Rattle.reader.proofs.Shown.{rows-shown, row-shown}
+use Rattle.session.specs.Ends.{Ended}
+use Rattle.session.proofs.Determined.{cells-show}
+
+module _ (ks xs ys zs : List ℕ) {before after : Lent} (h : Ended ks xs ys zs before after 0) (a : Asked) (n : named a ≡ true) where
+  -- `row` and `row_code`, lent the table of the form that has the row
+  pub row-after : {t r : RefT (List ℕ)} {code : ℕ} → now t ≡ table-in (after .form) a → Is-row t a r → code ≡ code-of (now t) a
+      → (now r ≡ listed (session (calls ks xs ys zs) .form) a) × (code ≡ 0)
+  row-after = row-shown (calls ks xs ys zs) after (length ks) (cells-show ks xs ys zs h) a n
+
+  -- the same from C: the cells that `sangvireb_params` or `sangvireb_args` tells of
+  pub located-after : {code start long : ℕ} → Located (table-in (after .form) a) a code start long
+      → (take long (drop start (table-in (after .form) a)) ≡ listed (session (calls ks xs ys zs) .form) a) × (code ≡ 0)
+  located-after l =
+      let shows = rows-shown (calls ks xs ys zs) after (length ks) (cells-show ks xs ys zs h) a n in
+      (rw (l .start-is, l .length-is) (shows .1), l .code-is ∙ shows .0)

@@ -1,0 +1,3 @@
+pub mod Known
+pub mod Agree
+pub mod Shown
