@@ -1,0 +1,6 @@
+pub mod Pieces
+pub mod Checks
+pub mod Rows
+pub mod Codes
+pub mod Determined
+pub mod Shown
