@@ -1,10 +1,21 @@
-/* The public calls of Sangvireb, for C. Link target/staticlib/libexports.a, which `rt staticlib exports` writes.
- * What each call answers and leaves is proved in crates/session and crates/alias. A list is a pointer and a length. */
+/* The public calls of Sangvireb, for C and C++. Link target/staticlib/libexports.a, which `rt staticlib exports` writes; README.md has the command.
+ * What each call answers and leaves is proved in crates/session, crates/alias and crates/exports; docs/RULES.md says it in words.
+ *
+ * A list is a pointer and a length. What a call is lent must be there for the call: as many cells as its length says, and no cell in two lists,
+ * neither in two of those that are changed nor in one that is changed and one that is read. A list of length 0 may be NULL.
+ * No call keeps what it was lent, allocates, or has state of its own, so calls with different lists may run at the same time. */
 #ifndef SANGVIREB_H
 #define SANGVIREB_H
 
 #include <stddef.h>
 #include <stdint.h>
+
+#ifdef __cplusplus
+extern "C" {
+#endif
+
+/* The interface that this header is for. Ask sangvireb_fits() once before anything else. */
+enum { SANGVIREB_VERSION = 1 };
 
 /* Limits, and the lengths that the three lists of tables need. The answers need a cell a call. */
 enum {
@@ -48,6 +59,37 @@ enum {
     SANGVIREB_PARAM_ROW = 65
 };
 
+/* Kinds of call, with their x, y, z (docs/RULES.md has the refusals and answers). */
+enum {
+    SANGVIREB_KIND_DECLARE_BLOCK = 1,              /* block */
+    SANGVIREB_KIND_DECLARE_VAR = 2,                /* variable, type */
+    SANGVIREB_KIND_MAKE_VALUE = 3,                 /* block, type */
+    SANGVIREB_KIND_DEF_VAR = 4,                    /* variable, value, block */
+    SANGVIREB_KIND_DEF_VAR_ANSWER = 5,             /* variable, number of the call of an accepted use, block */
+    SANGVIREB_KIND_USE_VAR = 6,                    /* variable, block */
+    SANGVIREB_KIND_NEW_BRANCH = 7,                 /* block */
+    SANGVIREB_KIND_NEW_DEST = 8,                   /* branch, block */
+    SANGVIREB_KIND_DECLARE_BLOCK_PREDECESSOR = 9,  /* block, branch */
+    SANGVIREB_KIND_REMOVE_BLOCK_PREDECESSOR = 10,  /* block, branch */
+    SANGVIREB_KIND_SEAL_BLOCK = 11,                /* block */
+    SANGVIREB_KIND_SEAL_ALL_BLOCKS = 12,
+    SANGVIREB_KIND_HAS_ANY_PREDECESSORS = 13,      /* block */
+    SANGVIREB_KIND_IS_SEALED = 14                  /* block */
+};
+
+/* Types of variables and values. */
+enum {
+    SANGVIREB_TYPE_I8 = 0,
+    SANGVIREB_TYPE_I16 = 1,
+    SANGVIREB_TYPE_I32 = 2,
+    SANGVIREB_TYPE_I64 = 3,
+    SANGVIREB_TYPE_F32 = 4,
+    SANGVIREB_TYPE_F64 = 5
+};
+
+/* Sorts of values. */
+enum { SANGVIREB_SORT_MADE = 0, SANGVIREB_SORT_PARAMETER = 1, SANGVIREB_SORT_ZERO = 2 };
+
 /* What a session itself answers. */
 enum { SANGVIREB_RUN = 0, SANGVIREB_SHORT = 1, SANGVIREB_UNFIT = 2 };
 
@@ -81,5 +123,40 @@ typedef struct {
 
 /* Follows alias targets from a value to one that is its own target. */
 sangvireb_answer sangvireb_resolve(const uint32_t *targets, size_t targets_len, uint32_t value);
+
+/* What the linked library was built for, by these places; 0 for any other place. */
+enum {
+    SANGVIREB_TELL_VERSION = 0,
+    SANGVIREB_TELL_BLOCKS = 1,
+    SANGVIREB_TELL_VARIABLES = 2,
+    SANGVIREB_TELL_DESTS = 3,
+    SANGVIREB_TELL_MADE = 4,
+    SANGVIREB_TELL_CALLS = 5,
+    SANGVIREB_TELL_GRAPH_NEED = 6,
+    SANGVIREB_TELL_FORM_NEED = 7,
+    SANGVIREB_TELL_WORK_NEED = 8,
+    SANGVIREB_TELL_KINDS = 9,
+    SANGVIREB_TELL_TYPES = 10,
+    SANGVIREB_TELL_SORTS = 11
+};
+uint32_t sangvireb_limit(uint32_t which);
+
+/* 1 if the linked library is the one that this header speaks of, 0 if its version, limits or numbers are others. */
+static inline int sangvireb_fits(void) {
+    static const uint32_t here[] = {
+        SANGVIREB_VERSION, SANGVIREB_BLOCKS, SANGVIREB_VARIABLES, SANGVIREB_DESTS,
+        SANGVIREB_MADE, SANGVIREB_CALLS, SANGVIREB_GRAPH_NEED, SANGVIREB_FORM_NEED,
+        SANGVIREB_WORK_NEED, SANGVIREB_KIND_IS_SEALED, SANGVIREB_TYPE_F64 + 1, SANGVIREB_SORT_ZERO + 1};
+    for (uint32_t which = 0; which < sizeof here / sizeof here[0]; which++) {
+        if (sangvireb_limit(which) != here[which]) {
+            return 0;
+        }
+    }
+    return 1;
+}
+
+#ifdef __cplusplus
+}
+#endif
 
 #endif

@@ -14,9 +14,11 @@ static void expect(int holds, const char *what) {
 }
 
 int main(void) {
+    expect(sangvireb_fits(), "the library is the one that the header speaks of");
+    expect(sangvireb_limit(99) == 0, "no limit is told at another place");
     /* case C: a diamond 0 to 1, 2 to 3; value 0 in block 1, value 1 in block 2; use in 3 */
     static const uint32_t calls[][4] = {
-        {1, 0, 0, 0}, {1, 1, 0, 0}, {1, 2, 0, 0}, {1, 3, 0, 0}, {2, 0, 2, 0}, {3, 1, 2, 0}, {4, 0, 0, 1}, {3, 2, 2, 0},
+        {SANGVIREB_KIND_DECLARE_BLOCK, 0, 0, 0}, {1, 1, 0, 0}, {1, 2, 0, 0}, {1, 3, 0, 0}, {SANGVIREB_KIND_DECLARE_VAR, 0, SANGVIREB_TYPE_I32, 0}, {3, 1, 2, 0}, {4, 0, 0, 1}, {3, 2, 2, 0},
         {4, 0, 1, 2}, {7, 0, 0, 0}, {8, 0, 1, 0}, {8, 0, 2, 0}, {9, 1, 0, 0}, {9, 2, 0, 0}, {7, 1, 0, 0}, {8, 1, 3, 0},
         {9, 3, 1, 0}, {7, 2, 0, 0}, {8, 2, 3, 0}, {9, 3, 2, 0}, {12, 0, 0, 0}, {6, 0, 3, 0}, {6, 9, 3, 0}};
     enum { N = sizeof calls / sizeof calls[0] };
@@ -47,6 +49,12 @@ int main(void) {
     expect(work[0] == 0 && work[SANGVIREB_WORK_NEED - 1] == 0, "work cells end as 0");
     expect(form[SANGVIREB_FORM_NEED] == 0xa5a5a5a5, "cells past the need keep what they held");
 
+    r = sangvireb_session(NULL, 0, NULL, 0, NULL, 0, NULL, 0, NULL, 0, NULL, 0, graph, SANGVIREB_GRAPH_NEED, form, SANGVIREB_FORM_NEED, work,
+                          SANGVIREB_WORK_NEED);
+    expect(r == SANGVIREB_RUN && graph[SANGVIREB_BLOCK_COUNT] == 0, "a session without calls, lists of length 0 being NULL, leaves the empty one");
+    r = sangvireb_session(k, N, x, N, y, N, z, N, codes, N, numbers, N, NULL, 0, form, SANGVIREB_FORM_NEED, work, SANGVIREB_WORK_NEED);
+    expect(r == SANGVIREB_SHORT, "no graph at all is too short");
+
     const uint32_t targets[] = {1, 2, 2, 4, 3, 9};
     sangvireb_answer a = sangvireb_resolve(targets, 6, 0);
     expect(a.code == 0 && a.number == 2, "0 resolves to 2");
@@ -56,6 +64,8 @@ int main(void) {
     expect(a.code == SANGVIREB_NO_END && a.number == 0, "a target outside gets 14");
     a = sangvireb_resolve(targets, 6, 6);
     expect(a.code == SANGVIREB_ABSENT && a.number == 0, "a number past the list gets 6");
+    a = sangvireb_resolve(NULL, 0, 0);
+    expect(a.code == SANGVIREB_ABSENT && a.number == 0, "nothing is in a list of length 0");
     printf("%s\n", failures ? "failed" : "all as expected");
     return failures != 0;
 }

@@ -4,13 +4,13 @@ use std::{env, process};
 
 const FOLDER: &str = "SANGVIREB_LIB";
 const BUILT: &str = "../../target/staticlib";
-const LIBRARY: &str = "libexports.a";
+const NAME: &str = "exports";
 
 fn main() {
     println!("cargo:rerun-if-env-changed={FOLDER}");
     let package = PathBuf::from(env::var_os("CARGO_MANIFEST_DIR").expect("cargo sets it for every build script"));
     let folder = package.join(env::var_os(FOLDER).unwrap_or(BUILT.into()));
-    let library = folder.join(LIBRARY);
+    let library = folder.join(format!("lib{NAME}.a"));
     println!("cargo:rerun-if-changed={}", library.display());
     if !library.is_file() {
         eprintln!("{} is not there.", library.display());
@@ -19,5 +19,6 @@ fn main() {
         process::exit(1);
     }
     println!("cargo:rustc-link-search=native={}", folder.display());
-    println!("cargo:rustc-link-lib=static=exports");
+    println!("cargo:rustc-link-lib=static={NAME}");
+    println!("cargo:rustc-env=SANGVIREB_NAME={NAME}");
 }

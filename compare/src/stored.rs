@@ -5,7 +5,7 @@ use crate::report::report;
 use lists::rng::Rng;
 use lists::shapes::{SHAPES, Shape};
 use lists::{Call, MAX_CALLS, limits, text};
-use std::path::Path;
+use std::path::{Path, PathBuf};
 use std::process::ExitCode;
 use std::{fs, io};
 
@@ -15,14 +15,20 @@ const LISTS: u64 = 40;
 /// Longer ones would fill the repository and tell a reader nothing.
 const LONGEST: usize = 120;
 
-/// Writes the program's files `stdin` and `stdout` into a folder.
+/// Lists, and the file or the shape that they come from.
+struct Group {
+    name: String,
+    lists: Vec<Vec<Call>>,
+}
+
+/// Writes the program's files `stdin` and `stdout` into a folder, and `names`: a line for each group, with its name and how many lists it has.
 pub fn run(root: &Path, into: &Path, seed: u64) -> ExitCode {
     let mut both = Both::new(seed);
-    let mut lists = examples(&root.join("examples")).expect("the examples can be read");
-    lists.extend(limits::fixed());
-    lists.extend(SHAPES.iter().filter(|&&shape| shape != Shape::Limits).flat_map(|&shape| some(shape, seed, &mut both)));
+    let mut groups = examples(&root.join("examples")).expect("the examples can be read");
+    groups.push(Group { name: Shape::Limits.name(), lists: limits::fixed() });
+    groups.extend(SHAPES.iter().filter(|&&shape| shape != Shape::Limits).map(|&shape| some(shape, seed, &mut both)));
     let (mut calls, mut answers, mut figures) = (String::new(), String::new(), Figures::default());
-    for list in &lists {
+    for list in groups.iter().flat_map(|group| &group.lists) {
         if let Some(what) = both.difference(list) {
             report(list, &what, &mut both);
             return ExitCode::FAILURE;
@@ -32,8 +38,10 @@ pub fn run(root: &Path, into: &Path, seed: u64) -> ExitCode {
         answers += &told(list);
     }
     println!("{}\n{}", figures.brief(), figures.full());
-    fs::write(into.join("stdin"), calls).expect("stdin can be written");
-    fs::write(into.join("stdout"), answers).expect("stdout can be written");
+    let names: String = groups.iter().map(|group| format!("{} {}\n", group.name, group.lists.len())).collect();
+    for (name, content) in [("stdin", calls), ("stdout", answers), ("names", names)] {
+        fs::write(into.join(name), content).expect("the file can be written");
+    }
     ExitCode::SUCCESS
 }
 
@@ -44,19 +52,19 @@ fn told(list: &[Call]) -> String {
 }
 
 /// By the files' names.
-fn examples(folder: &Path) -> io::Result<Vec<Vec<Call>>> {
+fn examples(folder: &Path) -> io::Result<Vec<Group>> {
     let mut files: Vec<_> = fs::read_dir(folder)?.map(|file| Ok(file?.path())).collect::<io::Result<_>>()?;
     files.retain(|file| file.extension().is_some_and(|end| end == "txt"));
     files.sort();
-    let mut found = Vec::new();
-    for file in files {
-        found.extend(lists::read(&fs::read_to_string(file)?).ok_or(io::ErrorKind::InvalidData)?);
-    }
-    Ok(found)
+    let group = |file: &PathBuf| {
+        let name = file.file_stem().unwrap_or_default().to_string_lossy().into_owned();
+        Ok(Group { name, lists: lists::read(&fs::read_to_string(file)?).ok_or(io::ErrorKind::InvalidData)? })
+    };
+    files.iter().map(group).collect()
 }
 
 /// The first lists of this shape that are short enough.
-fn some(shape: Shape, seed: u64, both: &mut Both) -> Vec<Vec<Call>> {
+fn some(shape: Shape, seed: u64, both: &mut Both) -> Group {
     let drawn = (0..).map(|number| lists::random(shape, &mut both.lent, &mut Rng::nth(seed, number)));
-    drawn.filter(|list| list.len() <= LONGEST).take(LISTS as usize).collect()
+    Group { name: shape.name(), lists: drawn.filter(|list| list.len() <= LONGEST).take(LISTS as usize).collect() }
 }

@@ -1,15 +1,13 @@
 //! A builder that answers each call at once.
-use crate::{Block, Branch, Call, List, Refusal, Session, Type, Value, Variable};
+use crate::list::once_each;
+use crate::{Block, Branch, Call, List, Refused, Session, Type, Value, Variable};
 
 /// The crate's builder by its method names, with an answer to each call.
 ///
-/// Each call is added to a list and the whole list is run again from the empty session, so a call costs time in the length of the list.
-/// That is nothing for a recipe of some hundred calls; where lists are long or speed counts, record a [`List`] and run it once.
-///
-/// A refused call leaves the builder as it was. The call after the last that a list has room for is [`Full`](Refusal::Full).
-#[derive(Clone, Default, Debug)]
+/// A refused call leaves the builder as it was, and its [`Refused`] says why. A builder takes as many calls as a list;
+/// the next is [`Full`](crate::Refusal::Full).
+#[derive(Default, Debug)]
 pub struct SSABuilder {
-    list: List,
     session: Session,
 }
 
@@ -19,9 +17,14 @@ impl SSABuilder {
         SSABuilder::default()
     }
 
+    /// Makes the builder ready for another function: as [`new`](SSABuilder::new) has it, on the tables at hand.
+    pub fn clear(&mut self) {
+        self.session.clear();
+    }
+
     /// The calls accepted so far.
     pub fn list(&self) -> &List {
-        &self.list
+        self.session.list()
     }
 
     /// What they left: parameters, arguments, aliases and the rest.
@@ -29,101 +32,100 @@ impl SSABuilder {
         &self.session
     }
 
-    fn ask<T>(&mut self, record: impl FnOnce(&mut List) -> Call<T>) -> Result<T, Refusal> {
-        let before = self.list.len();
-        let call = record(&mut self.list);
-        // The session's tables suffice, so it can be refused whole only because this call is one too many.
-        let run = self.session.rerun(&self.list).map_err(|_| Refusal::Full);
-        let answer = run.and_then(|()| self.session.answer(call));
-        if answer.is_err() {
-            // The tables need no mending: a refused call changes nothing but its own answer.
-            self.list.cut(before);
-            self.session.cut(before);
-        }
-        answer
+    fn ask<T, S>(&mut self, record: impl FnOnce(&mut List) -> Call<T, S>) -> Result<T, Refused> {
+        self.session.go_on(record)
     }
 
     /// See [`List::declare_block`].
-    pub fn declare_block(&mut self, block: Block) -> Result<Block, Refusal> {
+    pub fn declare_block(&mut self, block: Block) -> Result<Block, Refused> {
         self.ask(|list| list.declare_block(block))
     }
 
     /// See [`List::declare_var`].
-    pub fn declare_var(&mut self, variable: Variable, ty: Type) -> Result<Variable, Refusal> {
+    pub fn declare_var(&mut self, variable: Variable, ty: Type) -> Result<Variable, Refused> {
         self.ask(|list| list.declare_var(variable, ty))
     }
 
-    /// See [`List::make_value`].
-    pub fn make_value(&mut self, block: Block, ty: Type) -> Result<Value, Refusal> {
+    /// Makes a value in a block that has no branch yet.
+    pub fn make_value(&mut self, block: Block, ty: Type) -> Result<Value, Refused> {
         self.ask(|list| list.make_value(block, ty))
     }
 
     /// See [`List::def_var`].
-    pub fn def_var(&mut self, variable: Variable, value: Value, block: Block) -> Result<Value, Refusal> {
+    pub fn def_var(&mut self, variable: Variable, value: Value, block: Block) -> Result<Value, Refused> {
         self.ask(|list| list.def_var(variable, value, block))
     }
 
-    /// See [`List::use_var`].
-    pub fn use_var(&mut self, variable: Variable, block: Block) -> Result<Value, Refusal> {
+    /// The value that the variable holds in this block. It may be an alias, or become one: [`Session::resolve`] follows it at the end.
+    pub fn use_var(&mut self, variable: Variable, block: Block) -> Result<Value, Refused> {
         self.ask(|list| list.use_var(variable, block))
     }
 
     /// See [`List::new_branch`].
-    pub fn new_branch(&mut self, block: Block) -> Result<Branch, Refusal> {
+    pub fn new_branch(&mut self, block: Block) -> Result<Branch, Refused> {
         self.ask(|list| list.new_branch(block))
     }
 
     /// See [`List::new_dest`].
-    pub fn new_dest(&mut self, branch: Branch, target: Block) -> Result<u32, Refusal> {
+    pub fn new_dest(&mut self, branch: Branch, target: Block) -> Result<u32, Refused> {
         self.ask(|list| list.new_dest(branch, target))
     }
 
     /// See [`List::declare_block_predecessor`].
-    pub fn declare_block_predecessor(&mut self, block: Block, branch: Branch) -> Result<u32, Refusal> {
+    pub fn declare_block_predecessor(&mut self, block: Block, branch: Branch) -> Result<u32, Refused> {
         self.ask(|list| list.declare_block_predecessor(block, branch))
     }
 
     /// See [`List::remove_block_predecessor`].
-    pub fn remove_block_predecessor(&mut self, block: Block, branch: Branch) -> Result<u32, Refusal> {
+    pub fn remove_block_predecessor(&mut self, block: Block, branch: Branch) -> Result<u32, Refused> {
         self.ask(|list| list.remove_block_predecessor(block, branch))
     }
 
     /// See [`List::seal_block`].
-    pub fn seal_block(&mut self, block: Block) -> Result<u32, Refusal> {
+    pub fn seal_block(&mut self, block: Block) -> Result<u32, Refused> {
         self.ask(|list| list.seal_block(block))
     }
 
     /// See [`List::seal_all_blocks`].
-    pub fn seal_all_blocks(&mut self) -> Result<u32, Refusal> {
+    pub fn seal_all_blocks(&mut self) -> Result<u32, Refused> {
         self.ask(|list| list.seal_all_blocks())
     }
 
-    /// See [`List::has_any_predecessors`]. Read from the tables; the list doesn't grow.
-    pub fn has_any_predecessors(&self, block: Block) -> Result<bool, Refusal> {
+    /// Has the block a predecessor?
+    pub fn has_any_predecessors(&self, block: Block) -> Result<bool, Refused> {
         Ok(self.session.predecessors(block)?.len() > 0)
     }
 
-    /// See [`List::is_sealed`]. Read from the tables; the list doesn't grow.
-    pub fn is_sealed(&self, block: Block) -> Result<bool, Refusal> {
+    /// Is the block sealed?
+    pub fn is_sealed(&self, block: Block) -> Result<bool, Refused> {
         self.session.is_sealed(block)
+    }
+
+    /// Ends a block with a branch to one block, declared to it. See [`branch`](SSABuilder::branch).
+    pub fn jump(&mut self, from: Block, to: Block) -> Result<Branch, Refused> {
+        self.branch(from, &[to])
+    }
+
+    /// Ends a block with a branch to these, in this order, and declares it to each; a block named twice gets one predecessor.
+    ///
+    /// These are several calls. If one is refused, that is the answer, and those before it stand.
+    pub fn branch(&mut self, from: Block, to: &[Block]) -> Result<Branch, Refused> {
+        let branch = self.new_branch(from)?;
+        for &block in to {
+            self.new_dest(branch, block)?;
+        }
+        for block in once_each(to) {
+            self.declare_block_predecessor(block, branch)?;
+        }
+        Ok(branch)
     }
 }
 
-#[cfg(test)]
-mod tests {
-    use super::*;
-    use crate::raw;
-
-    #[test]
-    fn the_call_after_the_last_is_refused_and_the_builder_goes_on() {
-        let mut ssa = SSABuilder::new();
-        for _ in 1..raw::CALLS {
-            ssa.list.declare_block(Block(0));
-        }
-        assert_eq!(ssa.seal_all_blocks(), Ok(0));
-        assert_eq!(ssa.seal_all_blocks(), Err(Refusal::Full));
-        assert_eq!((ssa.list.len(), ssa.session.call_count()), (raw::CALLS, raw::CALLS));
-        assert_eq!(ssa.is_sealed(Block(0)), Ok(true));
-        assert_eq!(ssa.is_sealed(Block(1)), Err(Refusal::Absent));
+/// A builder with the same calls, which goes its own way.
+impl Clone for SSABuilder {
+    fn clone(&self) -> SSABuilder {
+        let mut session = self.session.clone();
+        session.list = self.session.list.clone();
+        SSABuilder { session }
     }
 }

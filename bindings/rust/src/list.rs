@@ -1,23 +1,32 @@
 //! A list of calls, recorded before it is run.
-use crate::{Block, Branch, RefusedWhole, Session, Type, Value, Variable};
+use crate::call::{Identity, NO_CALL};
+use crate::{Block, Branch, Call, Kind, RefusedWhole, RunError, Session, Type, Use, Value, Variable};
+use std::marker::PhantomData;
 
-/// The place of a call in its list, and how its answer reads.
-#[derive(Clone, Copy, Debug)]
-pub struct Call<T> {
-    pub(crate) place: usize,
-    pub(crate) read: fn(u32) -> T,
-}
-
-impl<T> Call<T> {
-    /// Counted from 0.
-    pub fn place(self) -> usize {
-        self.place
-    }
-}
-
-/// Calls to run in turn. Each method records one and answers its place; [`Session::answer`] has what came of it.
-#[derive(Clone, PartialEq, Eq, Default, Debug)]
+/// Calls to run in turn. Each method records one and hands out a [`Call`]; [`Session::answer`] has what came of it.
+///
+/// No refusal gets lost: [`run`](List::run) gives the first one, whether or not its call is asked for.
+///
+/// ```
+/// use sangvireb::{Block, List, RunError, Type, Value, Variable};
+///
+/// let mut list = List::new();
+/// let _ = list.declare_block(Block(0));
+/// let _ = list.declare_var(Variable(0), Type::F64);
+/// let _ = list.make_value(Block(0), Type::F64);
+/// let _ = list.def_var(Variable(0), Value(0), Block(0));
+/// let reading = list.use_var(Variable(0), Block(0));
+/// let session = list.run()?;
+/// assert_eq!(session.answer(reading)?, Value(0));
+///
+/// let _ = list.make_value(Block(9), Type::F64);
+/// let refused = list.run().unwrap_err();
+/// assert_eq!(refused.to_string(), "call 5, make_value of F64 in block 9: block 9 is not declared; 1 block is");
+/// # Ok::<(), RunError>(())
+/// ```
+#[derive(Debug)]
 pub struct List {
+    identity: Identity,
     pub(crate) kinds: Vec<u32>,
     pub(crate) xs: Vec<u32>,
     pub(crate) ys: Vec<u32>,
@@ -27,7 +36,7 @@ pub struct List {
 impl List {
     /// A list without calls.
     pub fn new() -> List {
-        List::default()
+        List { identity: Identity::new(), kinds: vec![], xs: vec![], ys: vec![], zs: vec![] }
     }
 
     /// How many calls are recorded.
@@ -40,109 +49,215 @@ impl List {
         self.kinds.is_empty()
     }
 
-    /// Drops all calls and keeps the room.
+    /// Drops all calls and keeps the room. What was handed out for them is then of another list.
     pub fn clear(&mut self) {
         self.cut(0);
+        self.identity = Identity::new();
     }
 
-    /// Drops the calls from this place on.
+    /// Drops the calls from this place on. Nothing may be handed out for them.
     pub(crate) fn cut(&mut self, place: usize) {
         for numbers in [&mut self.kinds, &mut self.xs, &mut self.ys, &mut self.zs] {
             numbers.truncate(place);
         }
     }
 
-    /// Runs the list once, on tables of its own.
-    pub fn run(&self) -> Result<Session, RefusedWhole> {
+    /// Becomes the first so many calls of another list, as if it were that one.
+    pub(crate) fn become_start_of(&mut self, other: &List, count: usize) {
+        let rows = [(&mut self.kinds, &other.kinds), (&mut self.xs, &other.xs), (&mut self.ys, &other.ys), (&mut self.zs, &other.zs)];
+        for (ours, theirs) in rows {
+            ours.clear();
+            ours.extend_from_slice(&theirs[..count]);
+        }
+        self.identity = other.identity;
+    }
+
+    /// Runs the list on tables of its own. If a call is refused, the first refusal is the answer, and there is no session.
+    pub fn run(&self) -> Result<Session, RunError> {
         let mut session = Session::new();
         session.rerun(self)?;
         Ok(session)
     }
 
-    /// A call by its numbers `kind, x, y, z`, for lists that were written elsewhere. Numbers that the kind doesn't use are not read.
-    pub fn push(&mut self, numbers: [u32; 4]) -> Call<u32> {
-        self.record(numbers, |number| number)
+    /// Runs the list and goes on after refusals: each refused call changes nothing, and [`Session::answer`] and
+    /// [`Session::refusals`] tell of it.
+    pub fn run_all(&self) -> Result<Session, RefusedWhole> {
+        let mut session = Session::new();
+        session.rerun_all(self)?;
+        Ok(session)
     }
 
-    fn record<T>(&mut self, [kind, x, y, z]: [u32; 4], read: fn(u32) -> T) -> Call<T> {
-        let place = self.len();
+    /// The recorded calls by their numbers `kind, x, y, z`.
+    pub fn calls(&self) -> impl ExactSizeIterator<Item = [u32; 4]> + '_ {
+        (0..self.len()).map(|place| self.numbers(place))
+    }
+
+    pub(crate) fn numbers(&self, place: usize) -> [u32; 4] {
+        [self.kinds[place], self.xs[place], self.ys[place], self.zs[place]]
+    }
+
+    /// The recorded call at this place, to ask a session for its answer; nothing past the end.
+    pub fn call(&self, place: usize) -> Option<Call<u32>> {
+        (place < self.len()).then(|| self.recorded(place, |number| number))
+    }
+
+    /// Was this call recorded here?
+    pub(crate) fn knows<T, S>(&self, call: &Call<T, S>) -> bool {
+        call.list == self.identity
+    }
+
+    fn recorded<T, S>(&self, place: usize, read: fn(u32) -> T) -> Call<T, S> {
+        Call { list: self.identity, place, read, source: PhantomData }
+    }
+
+    /// A call by its numbers `kind, x, y, z`, for lists that were written elsewhere. Numbers that the kind doesn't use are not read.
+    pub fn push(&mut self, [kind, x, y, z]: [u32; 4]) -> Call<u32> {
         self.kinds.push(kind);
         self.xs.push(x);
         self.ys.push(y);
         self.zs.push(z);
-        Call { place, read }
+        self.recorded(self.len() - 1, |number| number)
+    }
+
+    fn record<T, S>(&mut self, kind: Kind, x: u32, y: u32, z: u32, read: fn(u32) -> T) -> Call<T, S> {
+        let place = self.push([kind.number(), x, y, z]).place();
+        self.recorded(place, read)
     }
 
     /// Declares a block: the next one, or a known one, which changes nothing.
     pub fn declare_block(&mut self, block: Block) -> Call<Block> {
-        self.record([1, block.0, 0, 0], Block)
+        self.record(Kind::DeclareBlock, block.0, 0, 0, Block)
     }
 
     /// Declares a variable: the next one, or a known one with the type it has.
     pub fn declare_var(&mut self, variable: Variable, ty: Type) -> Call<Variable> {
-        self.record([2, variable.0, ty.number(), 0], Variable)
+        self.record(Kind::DeclareVar, variable.0, ty.number(), 0, Variable)
     }
 
     /// Makes a value in a block that has no branch yet. Its number is the count of values so far, of every sort: to define a variable with it
     /// in the same list, foresee that, or let [`SSABuilder`](crate::SSABuilder) tell you.
     pub fn make_value(&mut self, block: Block, ty: Type) -> Call<Value> {
-        self.record([3, block.0, ty.number(), 0], Value)
+        self.record(Kind::MakeValue, block.0, ty.number(), 0, Value)
     }
 
     /// From here on the variable holds this value in this block.
     pub fn def_var(&mut self, variable: Variable, value: Value, block: Block) -> Call<Value> {
-        self.record([4, variable.0, value.0, block.0], Value)
+        self.record(Kind::DefVar, variable.0, value.0, block.0, Value)
     }
 
-    /// The same with the value that an earlier accepted [`use_var`](List::use_var) answers; any other call is [`Absent`](crate::Refusal::Absent).
-    pub fn def_var_answer(&mut self, variable: Variable, answer: Call<Value>, block: Block) -> Call<Value> {
-        // a place that doesn't fit the cell is past every list, and so is the number that stands for it
-        let place = u32::try_from(answer.place).unwrap_or(u32::MAX);
-        self.record([5, variable.0, place, block.0], Value)
+    /// The same with the value that an earlier [`use_var`](List::use_var) of this list answers. That of another list is refused as
+    /// [`Absent`](crate::Refusal::Absent).
+    ///
+    /// ```
+    /// # use sangvireb::{Block, List, Type, Variable};
+    /// # let mut list = List::new();
+    /// let used = list.use_var(Variable(0), Block(0));
+    /// let _ = list.def_var_answer(Variable(1), used, Block(0));
+    /// ```
+    ///
+    /// The library takes the answer of a use and of no other call. A made value is another type, so the compiler refuses it:
+    ///
+    /// ```compile_fail,E0308
+    /// # use sangvireb::{Block, List, Type, Variable};
+    /// # let mut list = List::new();
+    /// let made = list.make_value(Block(0), Type::F64);
+    /// let _ = list.def_var_answer(Variable(1), made, Block(0)); // expected `Call<Value, Use>`, found `Call<Value>`
+    /// ```
+    pub fn def_var_answer(&mut self, variable: Variable, answer: Call<Value, Use>, block: Block) -> Call<Value> {
+        let place = if self.knows(&answer) { u32::try_from(answer.place).unwrap_or(NO_CALL) } else { NO_CALL };
+        self.record(Kind::DefVarAnswer, variable.0, place, block.0, Value)
     }
 
-    /// The value that the variable holds in this block. It may be an alias: [`Session::resolve`] follows it.
-    pub fn use_var(&mut self, variable: Variable, block: Block) -> Call<Value> {
-        self.record([6, variable.0, block.0, 0], Value)
+    /// The value that the variable holds in this block. It may be an alias: [`Session::resolved`] follows it.
+    pub fn use_var(&mut self, variable: Variable, block: Block) -> Call<Value, Use> {
+        self.record(Kind::UseVar, variable.0, block.0, 0, Value)
     }
 
-    /// Ends a block with a branch.
+    /// Ends a block with a branch, which bears the block's number.
     pub fn new_branch(&mut self, block: Block) -> Call<Branch> {
-        self.record([7, block.0, 0, 0], Branch)
+        self.record(Kind::NewBranch, block.0, 0, 0, Branch)
     }
 
     /// Adds a destination to a branch that isn't declared yet. Answers its place, from 0.
     pub fn new_dest(&mut self, branch: Branch, target: Block) -> Call<u32> {
-        self.record([8, branch.0, target.0, 0], |place| place)
+        self.record(Kind::NewDest, branch.0, target.0, 0, |place| place)
     }
 
     /// Declares to a block that this branch leads to it. Answers how many predecessors the block then has.
     pub fn declare_block_predecessor(&mut self, block: Block, branch: Branch) -> Call<u32> {
-        self.record([9, block.0, branch.0, 0], |count| count)
+        self.record(Kind::DeclareBlockPredecessor, block.0, branch.0, 0, |count| count)
     }
 
     /// Takes that back; the last predecessor moves into the free place, which is the answer.
     pub fn remove_block_predecessor(&mut self, block: Block, branch: Branch) -> Call<u32> {
-        self.record([10, block.0, branch.0, 0], |place| place)
+        self.record(Kind::RemoveBlockPredecessor, block.0, branch.0, 0, |place| place)
     }
 
     /// The block gets no more predecessors. Answers how many zeros that added.
     pub fn seal_block(&mut self, block: Block) -> Call<u32> {
-        self.record([11, block.0, 0, 0], |zeros| zeros)
+        self.record(Kind::SealBlock, block.0, 0, 0, |zeros| zeros)
     }
 
     /// Seals every block that isn't sealed, by number. Answers how many zeros that added.
     pub fn seal_all_blocks(&mut self) -> Call<u32> {
-        self.record([12, 0, 0, 0], |zeros| zeros)
+        self.record(Kind::SealAllBlocks, 0, 0, 0, |zeros| zeros)
     }
 
     /// Has the block a predecessor?
     pub fn has_any_predecessors(&mut self, block: Block) -> Call<bool> {
-        self.record([13, block.0, 0, 0], |any| any != 0)
+        self.record(Kind::HasAnyPredecessors, block.0, 0, 0, |any| any != 0)
     }
 
     /// Is the block sealed?
     pub fn is_sealed(&mut self, block: Block) -> Call<bool> {
-        self.record([14, block.0, 0, 0], |sealed| sealed != 0)
+        self.record(Kind::IsSealed, block.0, 0, 0, |sealed| sealed != 0)
+    }
+
+    /// Ends a block with a branch to one block, declared to it.
+    pub fn jump(&mut self, from: Block, to: Block) -> Call<Branch> {
+        self.branch(from, &[to])
+    }
+
+    /// Ends a block with a branch to these, in this order, and declares it to each; a block named twice is one predecessor's.
+    pub fn branch(&mut self, from: Block, to: &[Block]) -> Call<Branch> {
+        let (call, branch) = (self.new_branch(from), Branch(from.0));
+        for &block in to {
+            let _ = self.new_dest(branch, block);
+        }
+        for block in once_each(to) {
+            let _ = self.declare_block_predecessor(block, branch);
+        }
+        call
     }
 }
+
+/// The blocks without those that were named before.
+pub(crate) fn once_each(blocks: &[Block]) -> impl Iterator<Item = Block> + '_ {
+    blocks.iter().enumerate().filter(|(place, block)| !blocks[..*place].contains(block)).map(|(_, block)| *block)
+}
+
+/// The same calls in a list of its own: what was handed out for the first list's calls doesn't count for it.
+impl Clone for List {
+    fn clone(&self) -> List {
+        let mut copy = List::new();
+        let identity = copy.identity;
+        copy.become_start_of(self, self.len());
+        copy.identity = identity;
+        copy
+    }
+}
+
+impl Default for List {
+    fn default() -> List {
+        List::new()
+    }
+}
+
+/// The same calls in the same order.
+impl PartialEq for List {
+    fn eq(&self, other: &List) -> bool {
+        self.calls().eq(other.calls())
+    }
+}
+
+impl Eq for List {}

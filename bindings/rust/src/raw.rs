@@ -1,7 +1,12 @@
-//! The library's two calls over slices, and where each table lies in what is lent.
+//! The library's own calls over slices, its limits, and where each table lies in what is lent.
 //!
-//! This is for hosts that keep their own tables.
-//! docs/LAYOUT.md says what each cell holds. The names are those of bindings/c/sangvireb.h, and a test holds the two together.
+//! This is for hosts that keep their own tables. Every limit and offset of this package stands here and nowhere else.
+//! docs/LAYOUT.md says what each cell holds. The names are those of bindings/c/sangvireb.h, and a test holds the two together;
+//! the limits are also asked of the library itself ([`TOLD`]), before its first use.
+use crate::{library, Kind, Sort, Type};
+
+/// The version of the library's calls that this package was written for.
+pub const VERSION: u32 = 1;
 
 /// Blocks in a session.
 pub const BLOCKS: usize = 64;
@@ -82,6 +87,22 @@ pub const SHORT: u32 = 1;
 /// Refused whole: the call lists differ in length or are too long.
 pub const UNFIT: u32 = 2;
 
+/// What the library tells of itself, by the number to ask [`limit`] for: in words, and what this package was built for.
+pub const TOLD: [(&str, u32); 12] = [
+    ("version of its calls", VERSION),
+    ("limit of blocks", BLOCKS as u32),
+    ("limit of variables", VARIABLES as u32),
+    ("limit of destinations", DESTS as u32),
+    ("limit of made values", MADE as u32),
+    ("limit of calls", CALLS as u32),
+    ("count of cells in `graph`", GRAPH_NEED as u32),
+    ("count of cells in `form`", FORM_NEED as u32),
+    ("count of cells in `work`", WORK_NEED as u32),
+    ("count of kinds", Kind::ALL.len() as u32),
+    ("count of types", Type::ALL.len() as u32),
+    ("count of sorts", Sort::ALL.len() as u32),
+];
+
 #[repr(C)]
 struct Answer {
     code: u32,
@@ -111,11 +132,16 @@ extern "C" {
         work_len: usize,
     ) -> u32;
     fn sangvireb_resolve(targets: *const u32, targets_len: usize, value: u32) -> Answer;
+    fn sangvireb_limit(which: u32) -> u32;
 }
 
 /// Runs the calls `kinds[i], xs[i], ys[i], zs[i]` in turn from the empty session, whatever the tables hold.
 ///
 /// Answers [`RUN`], or refuses the whole with [`UNFIT`] or [`SHORT`] and leaves everything as it was.
+///
+/// # Panics
+///
+/// If the library that is linked was built for other limits ([`check`](crate::check)).
 #[allow(clippy::too_many_arguments)] // the library's own nine lists
 pub fn session(
     kinds: &[u32],
@@ -128,6 +154,7 @@ pub fn session(
     form: &mut [u32],
     work: &mut [u32],
 ) -> u32 {
+    library::must_fit();
     // SAFETY: the proved contract has no precondition: any lengths, any contents. Each pair is a slice's own pointer and length, so all of it
     // may be read and, for the last five, written; the borrow checker keeps those five apart from one another and from the four lists read.
     // The library keeps no pointer after it returns and has no state of its own, so threads may call it at once.
@@ -157,8 +184,19 @@ pub fn session(
 
 /// Follows alias targets from a value to one that is its own target. Answers a code and a number: 0 and that value; 6 and 0 if `value` is
 /// past the list; 14 and 0 if no end is reached.
+///
+/// # Panics
+///
+/// If the library that is linked was built for other limits ([`check`](crate::check)).
 pub fn resolve(targets: &[u32], value: u32) -> (u32, u32) {
+    library::must_fit();
     // SAFETY: the proved contract has no precondition, and the pair is the slice's own pointer and length, which is only read.
     let answer = unsafe { sangvireb_resolve(targets.as_ptr(), targets.len(), value) };
     (answer.code, answer.number)
+}
+
+/// What the library tells of itself: `which` counts the rows of [`TOLD`]; past them it answers 0.
+pub fn limit(which: u32) -> u32 {
+    // SAFETY: a number in, a number out; the proved contract has no precondition.
+    unsafe { sangvireb_limit(which) }
 }

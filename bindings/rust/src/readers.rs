@@ -1,6 +1,6 @@
 //! Reading the tables that a session left. A number that names nothing there is [`Absent`](Refusal::Absent), so that a wrong number shows.
-use crate::refusal::answer;
-use crate::{raw, Block, Branch, Refusal, Session, Sort, Type, Value, Variable};
+use crate::explain::Named;
+use crate::{raw, Block, Branch, Refused, Session, Sort, Type, Value, Variable};
 use std::iter::{Copied, Map};
 use std::slice::Iter;
 
@@ -29,20 +29,21 @@ pub struct Destination<'a> {
     pub target: Block,
     /// What it passes to that block's parameters, in their order; values as they were found, which may be aliases.
     pub args: Row<'a, Value>,
+    session: &'a Session,
+}
+
+impl<'a> Destination<'a> {
+    /// What it passes with aliases resolved: what holds when the branch is taken.
+    pub fn resolved(&self) -> impl ExactSizeIterator<Item = Value> + 'a {
+        let session = self.session;
+        self.args.clone().map(|arg| session.end_of(arg))
+    }
 }
 
 /// A row is its count and then its entries. No count exceeds its row's room (`rooms-suffice`).
 fn row<T>(cells: &[u32], start: usize, read: fn(u32) -> T) -> Row<'_, T> {
     let count = cells[start] as usize;
     cells[start + 1..][..count].iter().copied().map(read)
-}
-
-fn within(number: u32, count: u32) -> Result<usize, Refusal> {
-    if number < count {
-        Ok(number as usize)
-    } else {
-        Err(Refusal::Absent)
-    }
 }
 
 fn stored_type(number: u32) -> Type {
@@ -60,12 +61,27 @@ impl Session {
         &self.form
     }
 
-    fn block(&self, block: Block) -> Result<usize, Refusal> {
-        within(block.0, self.block_count())
+    /// That this is there; else why not.
+    fn there(&self, named: Named) -> Result<(), Refused> {
+        named.missing(self).map_or(Ok(()), |words| Err(Refused::absent(words)))
     }
 
-    fn variable(&self, variable: Variable) -> Result<usize, Refusal> {
-        within(variable.0, self.variable_count())
+    fn block(&self, block: Block) -> Result<usize, Refused> {
+        self.there(Named::Block(block.0)).map(|()| block.0 as usize)
+    }
+
+    fn variable(&self, variable: Variable) -> Result<usize, Refused> {
+        self.there(Named::Variable(variable.0)).map(|()| variable.0 as usize)
+    }
+
+    /// The declared blocks, in order.
+    pub fn blocks(&self) -> impl ExactSizeIterator<Item = Block> {
+        (0..self.block_count()).map(Block)
+    }
+
+    /// The declared variables, in order.
+    pub fn variables(&self) -> impl ExactSizeIterator<Item = Variable> {
+        (0..self.variable_count()).map(Variable)
     }
 
     /// How many blocks are declared.
@@ -89,56 +105,55 @@ impl Session {
     }
 
     /// A variable's type.
-    pub fn type_of(&self, variable: Variable) -> Result<Type, Refusal> {
+    pub fn type_of(&self, variable: Variable) -> Result<Type, Refused> {
         let place = self.variable(variable)?;
         Ok(stored_type(self.graph[raw::TYPES + 1 + place]))
     }
 
     /// Is the block sealed?
-    pub fn is_sealed(&self, block: Block) -> Result<bool, Refusal> {
+    pub fn is_sealed(&self, block: Block) -> Result<bool, Refused> {
         Ok(self.graph[raw::SEALED + self.block(block)?] != 0)
     }
 
     /// The block's branch, if it has one.
-    pub fn branch(&self, block: Block) -> Result<Option<Branch>, Refusal> {
+    pub fn branch(&self, block: Block) -> Result<Option<Branch>, Refused> {
         let marked = self.graph[raw::BRANCHES + self.block(block)?] != 0;
         Ok(marked.then_some(Branch(block.0)))
     }
 
     /// The branch's destinations, each with its arguments.
-    pub fn destinations(&self, branch: Branch) -> Result<impl ExactSizeIterator<Item = Destination<'_>>, Refusal> {
-        let block = Block(branch.0);
-        self.branch(block)?.ok_or(Refusal::Absent)?;
-        let place = self.block(block)?;
+    pub fn destinations(&self, branch: Branch) -> Result<impl ExactSizeIterator<Item = Destination<'_>>, Refused> {
+        self.there(Named::Branch(branch.0))?;
+        let place = branch.0 as usize;
         let targets = row(&self.graph, raw::DEST_ROWS + place * raw::DEST_ROW, Block);
         let args = move |dest| row(&self.form, raw::ARG_ROWS + (place * raw::DESTS + dest) * raw::PARAM_ROW, Value);
-        Ok(targets.enumerate().map(move |(dest, target)| Destination { target, args: args(dest) }))
+        Ok(targets.enumerate().map(move |(dest, target)| Destination { target, args: args(dest), session: self }))
     }
 
     /// The branches declared to the block, in the order in which they are read.
-    pub fn predecessors(&self, block: Block) -> Result<Row<'_, Branch>, Refusal> {
+    pub fn predecessors(&self, block: Block) -> Result<Row<'_, Branch>, Refused> {
         Ok(row(&self.graph, raw::PRED_ROWS + self.block(block)? * raw::PRED_ROW, Branch))
     }
 
     /// The block's parameters, in order.
-    pub fn params(&self, block: Block) -> Result<Row<'_, Value>, Refusal> {
+    pub fn params(&self, block: Block) -> Result<Row<'_, Value>, Refused> {
         Ok(row(&self.form, raw::PARAM_ROWS + self.block(block)? * raw::PARAM_ROW, Value))
     }
 
     /// The variables that wait for the block to be sealed. Their parameters are the last of the block's, in the same order.
-    pub fn pending(&self, block: Block) -> Result<Row<'_, Variable>, Refusal> {
+    pub fn pending(&self, block: Block) -> Result<Row<'_, Variable>, Refused> {
         Ok(row(&self.form, raw::PENDING_ROWS + self.block(block)? * raw::PARAM_ROW, Variable))
     }
 
     /// The value recorded last for the variable in the block, if there is one. It may be an alias.
-    pub fn def(&self, variable: Variable, block: Block) -> Result<Option<Value>, Refusal> {
+    pub fn def(&self, variable: Variable, block: Block) -> Result<Option<Value>, Refused> {
         let cell = self.form[raw::DEFS + self.variable(variable)? * raw::BLOCKS + self.block(block)?];
         Ok(cell.checked_sub(1).map(Value))
     }
 
     /// What is known of a value.
-    pub fn value(&self, value: Value) -> Result<ValueData, Refusal> {
-        within(value.0, self.value_count()).map(|place| self.data(place))
+    pub fn value(&self, value: Value) -> Result<ValueData, Refused> {
+        self.there(Named::Value(value.0)).map(|()| self.data(value.0 as usize))
     }
 
     /// All values, by number.
@@ -158,10 +173,22 @@ impl Session {
     }
 
     /// The value that this one stands for: itself if it is no alias.
-    pub fn resolve(&self, value: Value) -> Result<Value, Refusal> {
+    pub fn resolve(&self, value: Value) -> Result<Value, Refused> {
+        self.there(Named::Value(value.0)).map(|()| self.end_of(value))
+    }
+
+    /// The end of a stored value's chain of aliases.
+    pub(crate) fn end_of(&self, value: Value) -> Value {
         let targets = &self.form[raw::TARGET..][..self.value_count() as usize];
-        let (code, number) = raw::resolve(targets, value.0);
-        answer(code, number).map(Value)
+        let (code, end) = raw::resolve(targets, value.0);
+        assert_eq!(code, 0, "proved: every chain of a session ends (chains-resolve), and {value} is stored in it");
+        Value(end)
+    }
+
+    /// The zeros that stand at the start of the block, by number: each holds the zero of its type wherever the block begins.
+    pub fn zeros(&self, block: Block) -> Result<impl Iterator<Item = ValueData> + '_, Refused> {
+        self.block(block)?;
+        Ok(self.values().filter(move |data| data.sort == Sort::Zero && data.block == block))
     }
 
     /// For each zero, in order: the place of the call that added it, and its block.

@@ -1,32 +1,94 @@
-//! What a value is: its type, and where it comes from.
+//! The numbered sets of the calls and tables: kinds of call, types and sorts of value.
+use std::fmt;
 
-/// The type of a variable or a value.
-#[derive(Clone, Copy, PartialEq, Eq, Hash, Debug)]
-#[repr(u32)]
-#[allow(missing_docs)] // the names say it
-pub enum Type {
-    I8,
-    I16,
-    I32,
-    I64,
-    F32,
-    F64,
+macro_rules! numbered {
+    ($(#[$text:meta])* $name:ident from $first:literal, $words:literal: $($(#[$sentence:meta])* $case:ident $word:literal,)*) => {
+        $(#[$text])*
+        #[derive(Clone, Copy, PartialEq, Eq, Hash, Debug)]
+        #[repr(u32)]
+        pub enum $name {
+            $($(#[$sentence])* $case,)*
+        }
+
+        impl $name {
+            #[doc = concat!("All ", $words, ", by number.")]
+            pub const ALL: [$name; [$($word),*].len()] = [$($name::$case),*];
+
+            /// Its number in calls and tables.
+            pub fn number(self) -> u32 {
+                self as u32 + $first
+            }
+
+            /// The one with this number.
+            pub fn from_number(number: u32) -> Option<$name> {
+                $name::ALL.get(number.checked_sub($first)? as usize).copied()
+            }
+
+            /// Its name.
+            pub fn name(self) -> &'static str {
+                [$($word),*][self as usize]
+            }
+        }
+
+        impl fmt::Display for $name {
+            fn fmt(&self, f: &mut fmt::Formatter<'_>) -> fmt::Result {
+                f.write_str(self.name())
+            }
+        }
+    };
 }
 
+numbered!(
+    /// A kind of call, as [`List`](crate::List) has a method for each.
+    Kind from 1, "kinds":
+    /// Declares a block.
+    DeclareBlock "declare_block",
+    /// Declares a variable.
+    DeclareVar "declare_var",
+    /// Makes a value.
+    MakeValue "make_value",
+    /// Gives a variable a value by its number.
+    DefVar "def_var",
+    /// Gives a variable the value that an earlier use answered.
+    DefVarAnswer "def_var_answer",
+    /// Reads a variable.
+    UseVar "use_var",
+    /// Ends a block with a branch.
+    NewBranch "new_branch",
+    /// Adds a destination to a branch.
+    NewDest "new_dest",
+    /// Declares a branch to a block that it leads to.
+    DeclareBlockPredecessor "declare_block_predecessor",
+    /// Takes that back.
+    RemoveBlockPredecessor "remove_block_predecessor",
+    /// Seals a block.
+    SealBlock "seal_block",
+    /// Seals all blocks.
+    SealAllBlocks "seal_all_blocks",
+    /// Asks whether a block has a predecessor.
+    HasAnyPredecessors "has_any_predecessors",
+    /// Asks whether a block is sealed.
+    IsSealed "is_sealed",
+);
+
+numbered!(
+    /// The type of a variable or a value.
+    Type from 0, "types":
+    /// An integer of a byte.
+    I8 "I8",
+    /// An integer of two bytes.
+    I16 "I16",
+    /// An integer of four bytes.
+    I32 "I32",
+    /// An integer of eight bytes.
+    I64 "I64",
+    /// A float of four bytes.
+    F32 "F32",
+    /// A float of eight bytes.
+    F64 "F64",
+);
+
 impl Type {
-    /// All types, by number.
-    pub const ALL: [Type; 6] = [Type::I8, Type::I16, Type::I32, Type::I64, Type::F32, Type::F64];
-
-    /// The type's number in calls and tables.
-    pub fn number(self) -> u32 {
-        self as u32
-    }
-
-    /// The type with this number.
-    pub fn from_number(number: u32) -> Option<Type> {
-        Type::ALL.get(number as usize).copied()
-    }
-
     /// In bytes.
     pub fn width(self) -> u32 {
         match self {
@@ -43,29 +105,13 @@ impl Type {
     }
 }
 
-/// Where a value comes from. It keeps its sort when it becomes an alias.
-#[derive(Clone, Copy, PartialEq, Eq, Hash, Debug)]
-#[repr(u32)]
-pub enum Sort {
+numbered!(
+    /// Where a value comes from. It keeps its sort when it becomes an alias.
+    Sort from 0, "sorts":
     /// Made by the caller.
-    Made,
+    Made "made",
     /// A parameter of its block.
-    Parameter,
+    Parameter "parameter",
     /// A zero added at the start of its block, where a variable was read that nothing had set.
-    Zero,
-}
-
-impl Sort {
-    /// All sorts, by number.
-    pub const ALL: [Sort; 3] = [Sort::Made, Sort::Parameter, Sort::Zero];
-
-    /// The sort's number in tables.
-    pub fn number(self) -> u32 {
-        self as u32
-    }
-
-    /// The sort with this number.
-    pub fn from_number(number: u32) -> Option<Sort> {
-        Sort::ALL.get(number as usize).copied()
-    }
-}
+    Zero "zero",
+);

@@ -1,27 +1,29 @@
 //! The last that is accepted and the first that is not; and tables that were used before.
-use sangvireb::{raw, Block, List, Refusal, RefusedWhole, Session, Type, Value, Variable};
+mod common;
+use common::code;
+use sangvireb::{raw, Block, Kind, List, Refusal, RefusedWhole, RunError, SSABuilder, Session, Type, Value, Variable};
 
 #[test]
 fn blocks_and_variables() {
     let mut list = List::new();
     let blocks: Vec<_> = (0..=64).map(|number| list.declare_block(Block(number))).collect();
     let variables: Vec<_> = (0..=64).map(|number| list.declare_var(Variable(number), Type::F32)).collect();
-    let session = list.run().unwrap();
+    let session = list.run_all().unwrap();
     assert_eq!(session.answer(blocks[63]), Ok(Block(63)));
-    assert_eq!(session.answer(blocks[64]), Err(Refusal::Full));
+    assert_eq!(code(session.answer(blocks[64])), Err(Refusal::Full));
     assert_eq!(session.answer(variables[63]), Ok(Variable(63)));
-    assert_eq!(session.answer(variables[64]), Err(Refusal::Full));
+    assert_eq!(code(session.answer(variables[64])), Err(Refusal::Full));
     assert_eq!((session.block_count(), session.variable_count()), (64, 64));
 }
 
 #[test]
 fn made_values() {
     let mut list = List::new();
-    list.declare_block(Block(0));
+    let _ = list.declare_block(Block(0));
     let made: Vec<_> = (0..=4096).map(|_| list.make_value(Block(0), Type::I16)).collect();
-    let session = list.run().unwrap();
+    let session = list.run_all().unwrap();
     assert_eq!(session.answer(made[4095]), Ok(Value(4095)));
-    assert_eq!(session.answer(made[4096]), Err(Refusal::Full));
+    assert_eq!(code(session.answer(made[4096])), Err(Refusal::Full));
     assert_eq!((session.value_count(), session.made_count()), (4096, 4096));
 }
 
@@ -29,12 +31,12 @@ fn made_values() {
 fn unset_everywhere() -> List {
     let mut list = List::new();
     for number in 0..64 {
-        list.declare_block(Block(number));
-        list.declare_var(Variable(number), Type::I64);
+        let _ = list.declare_block(Block(number));
+        let _ = list.declare_var(Variable(number), Type::I64);
     }
-    list.seal_all_blocks();
+    let _ = list.seal_all_blocks();
     for cell in 0..64 * 64 {
-        list.use_var(Variable(cell % 64), Block(cell / 64));
+        let _ = list.use_var(Variable(cell % 64), Block(cell / 64));
     }
     list
 }
@@ -48,7 +50,7 @@ fn a_session_of_any_length_and_tables_used_before() {
     let mut list = List::new();
     let first = list.declare_block(Block(0));
     for _ in 1..raw::CALLS {
-        list.is_sealed(Block(0));
+        let _ = list.is_sealed(Block(0));
     }
     assert_eq!(session.rerun(&list), Ok(()));
     let fresh = list.run().unwrap();
@@ -56,16 +58,33 @@ fn a_session_of_any_length_and_tables_used_before() {
     assert_eq!((session.call_count(), session.answer(first)), (16384, Ok(Block(0))));
 
     let last = list.is_sealed(Block(0));
-    assert_eq!(session.rerun(&list), Err(RefusedWhole::Unfit));
-    assert_eq!((session.call_count(), session.answer(last)), (16384, Err(Refusal::Absent)));
+    assert_eq!(session.rerun(&list), Err(RunError::Whole(RefusedWhole::Unfit)));
+    assert_eq!((session.call_count(), code(session.answer(last))), (16384, Err(Refusal::Absent)));
     assert!(session.graph() == fresh.graph() && session.form() == fresh.form());
-    assert_eq!(list.run().err(), Some(RefusedWhole::Unfit));
+    assert_eq!(list.run_all().err(), Some(RefusedWhole::Unfit));
+    assert_eq!(list.run().unwrap_err().to_string(), "the call lists differ in length or have more than 16384 calls");
+}
+
+#[test]
+fn the_builders_call_after_the_last_is_refused_and_the_builder_goes_on() {
+    let mut ssa = SSABuilder::new();
+    // a known block changes nothing and counts as a call
+    for _ in 1..raw::CALLS {
+        ssa.declare_block(Block(0)).unwrap();
+    }
+    assert_eq!(ssa.seal_all_blocks(), Ok(0));
+    let refused = ssa.use_var(Variable(0), Block(0)).unwrap_err();
+    assert_eq!(refused.refusal(), Refusal::Full);
+    assert_eq!(refused.to_string(), "call 16384, use_var of variable 0 in block 0: 16384 calls are made, which is the limit");
+    assert_eq!(ssa.session().call_count(), raw::CALLS);
+    assert_eq!(ssa.is_sealed(Block(0)), Ok(true));
+    assert_eq!(code(ssa.is_sealed(Block(1))), Err(Refusal::Absent));
 }
 
 #[test]
 fn an_empty_list_leaves_the_empty_session() {
     let mut session = unset_everywhere().run().unwrap();
-    session.rerun(&List::new()).unwrap();
+    session.clear();
     let empty = Session::new();
     assert!(session.graph() == empty.graph() && session.form() == empty.form());
     assert_eq!((session.block_count(), session.values().len(), session.placed().len()), (0, 0, 0));
@@ -77,4 +96,5 @@ fn types_know_their_width_and_their_zero() {
     assert_eq!(Type::ALL.map(Type::zero_bits), [0; 6]);
     assert!(Type::ALL.iter().all(|&ty| Type::from_number(ty.number()) == Some(ty)));
     assert_eq!(Type::from_number(6), None);
+    assert_eq!((Kind::from_number(0), Kind::from_number(14), Kind::from_number(15)), (None, Some(Kind::IsSealed), None));
 }

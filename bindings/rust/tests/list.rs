@@ -28,13 +28,14 @@ fn each_kind_has_its_answer() {
     let session = list.run().unwrap();
     assert_eq!(blocks.map(|call| session.answer(call)), [Ok(start), Ok(next)]);
     assert_eq!(session.answer(declared), Ok(FIRST));
-    assert_eq!([made, set].map(|call| session.answer(call)), [Ok(Value(0)); 2]);
+    assert_eq!([made, set].map(|call| session.answer(call)), [Ok(Value(0)), Ok(Value(0))]);
     assert_eq!(session.answer(ended), Ok(branch));
     assert_eq!([dest, count, place, again].map(|call| session.answer(call)), [Ok(0), Ok(1), Ok(0), Ok(1)]);
     assert_eq!([none, any].map(|call| session.answer(call)), [Ok(false), Ok(true)]);
-    assert_eq!([sealed, all].map(|call| session.answer(call)), [Ok(0); 2]);
+    assert_eq!([sealed, all].map(|call| session.answer(call)), [Ok(0), Ok(0)]);
     assert_eq!([open, closed].map(|call| session.answer(call)), [Ok(false), Ok(true)]);
-    assert_eq!([waits, kept].map(|call| session.answer(call)), [Ok(Value(1)); 2]);
+    assert_eq!((session.answer(waits), session.answer(kept)), (Ok(Value(1)), Ok(Value(1))));
+    assert_eq!((session.resolved(waits), session.resolved(kept)), (Ok(Value(0)), Ok(Value(0))));
     assert_eq!((kept.place(), session.call_count()), (list.len() - 1, 18));
     assert_eq!((session.made_count(), session.value_count()), (1, 2));
     assert_eq!(session.resolve(Value(1)), Ok(Value(0)));

@@ -1,12 +1,12 @@
 //! Every refusal, by a call that gets it; and a refused call leaves the builder as it was.
 mod common;
-use common::{builder, jump, set, FIRST};
-use sangvireb::{raw, Block, Branch, List, Refusal, RefusedWhole, SSABuilder, Type, Value, Variable};
+use common::{branch, builder, code, set, FIRST};
+use sangvireb::{raw, Block, Branch, List, Refusal, Refused, RefusedWhole, SSABuilder, Type, Value, Variable};
 
 /// The call gets this refusal, and nothing else is different afterwards.
-fn refused<T: std::fmt::Debug>(ssa: &mut SSABuilder, refusal: Refusal, call: impl FnOnce(&mut SSABuilder) -> Result<T, Refusal>) {
+fn refused<T: std::fmt::Debug>(ssa: &mut SSABuilder, refusal: Refusal, call: impl FnOnce(&mut SSABuilder) -> Result<T, Refused>) {
     let before = ssa.clone();
-    assert_eq!(call(ssa).expect_err("it must be refused"), refusal);
+    assert_eq!(call(ssa).expect_err("it must be refused").refusal(), refusal);
     assert_eq!(ssa.list(), before.list());
     assert_eq!(ssa.session().call_count(), before.session().call_count());
     assert!(ssa.session().graph() == before.session().graph());
@@ -18,8 +18,8 @@ fn an_unknown_kind() {
     let mut list = List::new();
     let calls = [0, 15, u32::MAX].map(|kind| list.push([kind, 0, 0, 0]));
     let known = list.push([1, 0, 7, 7]);
-    let session = list.run().unwrap();
-    assert!(calls.iter().all(|&call| session.answer(call) == Err(Refusal::UnknownKind)));
+    let session = list.run_all().unwrap();
+    assert!(calls.iter().all(|&call| code(session.answer(call)) == Err(Refusal::UnknownKind)));
     assert_eq!(session.answer(known), Ok(0));
 }
 
@@ -66,7 +66,7 @@ fn types_that_differ() {
 #[test]
 fn what_comes_too_late() {
     let mut ssa = builder(2);
-    let branch = jump(&mut ssa, 0, &[1]);
+    let branch = branch(&mut ssa, 0, &[1]);
     refused(&mut ssa, Refusal::HasBranch, |ssa| ssa.new_branch(Block(0)));
     refused(&mut ssa, Refusal::HasBranch, |ssa| ssa.make_value(Block(0), Type::I32));
     refused(&mut ssa, Refusal::Declared, |ssa| ssa.new_dest(branch, Block(1)));
@@ -80,7 +80,7 @@ fn what_comes_too_late() {
 #[test]
 fn where_no_branch_leads() {
     let mut ssa = builder(2);
-    let branch = jump(&mut ssa, 0, &[1]);
+    let branch = branch(&mut ssa, 0, &[1]);
     refused(&mut ssa, Refusal::NoEdge, |ssa| ssa.declare_block_predecessor(Block(0), branch));
     refused(&mut ssa, Refusal::NoEdge, |ssa| ssa.remove_block_predecessor(Block(0), branch));
 }
@@ -99,21 +99,19 @@ fn a_ninth_destination() {
 #[test]
 fn a_type_an_answer_or_a_place_that_is_not_there() {
     let mut list = List::new();
-    list.declare_block(Block(0));
+    let _ = list.declare_block(Block(0));
     let unknown_type = list.push([2, 0, 6, 0]);
-    list.declare_var(FIRST, Type::F32);
+    let _ = list.declare_var(FIRST, Type::F32);
     let made = list.make_value(Block(0), Type::F32);
-    let of_made = list.def_var_answer(FIRST, made, Block(0));
+    let of_made = list.push([5, 0, made.place() as u32, 0]);
     let of_itself = list.push([5, 0, 5, 0]);
     let used = list.use_var(FIRST, Block(0));
     let of_used = list.def_var_answer(FIRST, used, Block(0));
-    let session = list.run().unwrap();
-    assert_eq!(session.answer(unknown_type), Err(Refusal::Absent));
-    assert_eq!(session.answer(of_made), Err(Refusal::Absent));
-    assert_eq!(session.answer(of_itself), Err(Refusal::Absent));
+    let session = list.run_all().unwrap();
+    assert_eq!(code(session.answer(unknown_type)), Err(Refusal::Absent));
+    assert_eq!(code(session.answer(of_made)), Err(Refusal::Absent));
+    assert_eq!(code(session.answer(of_itself)), Err(Refusal::Absent));
     assert_eq!((session.answer(used), session.answer(of_used)), (Ok(Value(1)), Ok(Value(1))));
-    list.clear();
-    assert_eq!(list.run().unwrap().answer(used), Err(Refusal::Absent));
 }
 
 #[test]

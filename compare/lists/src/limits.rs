@@ -18,15 +18,16 @@ pub fn list(rng: &mut Rng) -> Vec<Call> {
 /// A list for each limit, always the same: what is just accepted, and what is refused after it.
 pub fn fixed() -> Vec<Vec<Call>> {
     let mut rng = Rng::new(0);
-    let chain = one_chain(16, 16, |_| {});
     let one_too_many = vec![[12, 0, 0, 0]; MAX_CALLS + 1];
-    vec![arguments(&mut rng), full_lookup(&mut rng), waiting_results(&mut rng), chain, everything(), one_too_many]
+    vec![arguments(&mut rng), full_lookup(&mut rng), waiting_results(&mut rng), followed_chain(16, 16), everything(), one_too_many]
 }
 
 /// As many calls as a list can have, and as many values: made, and a parameter and a zero for each variable in each block, none of which has a way in.
+/// Once no more can be made, making one is still refused for other reasons first: an unknown block, an unknown type, a branch.
 fn everything() -> Vec<Call> {
     let mut calls = declared(BLOCKS, VARIABLES);
     calls.extend((0..MADE + 1).map(|_| [3, 0, 2, 0]));
+    calls.extend([[3, BLOCKS as u32, 2, 0], [3, 0, 6, 0], [7, 1, 0, 0], [3, 1, 2, 0]]);
     calls.push([12, 0, 0, 0]);
     for _ in 0..2 {
         calls.extend((0..BLOCKS as u32).flat_map(|b| (0..VARIABLES as u32).map(move |v| [6, v, b, 0])));
@@ -151,6 +152,15 @@ fn one_chain(blocks: u32, vars: u32, order: impl FnOnce(&mut [u32])) -> Vec<Call
     let mut seals: Vec<u32> = (0..blocks).rev().collect();
     order(&mut seals);
     calls.extend(seals.iter().map(|&b| [11, b, 0, 0]));
+    calls
+}
+
+/// Such a chain, followed from its end: a block that is entered directly and by way of another uses the variable there.
+fn followed_chain(blocks: u32, vars: u32) -> Vec<Call> {
+    let mut calls = one_chain(blocks, vars, |_| {});
+    let (last, side, join) = (blocks - 1, blocks, blocks + 1);
+    calls.extend([[1, side, 0, 0], [1, join, 0, 0], [7, last, 0, 0], [8, last, side, 0], [8, last, join, 0], [7, side, 0, 0], [8, side, join, 0]]);
+    calls.extend([[9, side, last, 0], [9, join, last, 0], [9, join, side, 0], [12, 0, 0, 0], [6, vars - 1, join, 0]]);
     calls
 }
 

@@ -144,6 +144,10 @@ impl Held<'_> {
 
 /// A path from block 0.
 pub fn walk(session: &Finished, acts: &[Vec<Act>], walker: &mut impl Walker) {
+    walk_by(session, acts, walker, |held, from, place| held.go(from, place));
+}
+
+fn walk_by<'s>(session: &'s Finished<'s>, acts: &[Vec<Act>], walker: &mut impl Walker, go: impl Fn(&mut Held<'s>, u32, usize) -> u32) {
     let values = (0..session.values()).map(|_| walker.content(Content::Unset)).collect();
     let mut held = Held { session, values, vars: vec![0; session.variables() as usize] };
     let mut block = 0;
@@ -151,6 +155,62 @@ pub fn walk(session: &Finished, acts: &[Vec<Act>], walker: &mut impl Walker) {
     loop {
         held.stay(block, &acts[block as usize], walker);
         let Some(place) = walker.next(session.dests(block)) else { return };
-        block = held.go(block, place);
+        block = go(&mut held, block, place);
+    }
+}
+
+#[cfg(test)]
+mod tests {
+    use super::*;
+    use crate::lent::Lent;
+    use crate::rng::Rng;
+
+    /// Three blocks further, always by the first destination; no two contents are the same.
+    struct Short {
+        left: u32,
+        contents: u64,
+        wrong: u32,
+    }
+
+    impl Walker for Short {
+        fn next(&mut self, _: &[u32]) -> Option<usize> {
+            self.left = self.left.checked_sub(1)?;
+            Some(0)
+        }
+
+        fn content(&mut self, _: Content) -> u64 {
+            self.contents += 1;
+            self.contents
+        }
+
+        fn meet(&mut self, met: Met) {
+            self.wrong += u32::from(met.holds != met.received);
+        }
+    }
+
+    /// A slip: each parameter is set before the next argument is read.
+    fn go_in_turn(held: &mut Held, from: u32, place: usize) -> u32 {
+        let to = held.session.dests(from)[place];
+        for (&param, &arg) in held.session.params(to).iter().zip(held.session.args(from, place)) {
+            held.values[param as usize] = held.read(arg);
+        }
+        held.set_zeros(to);
+        to
+    }
+
+    #[test]
+    fn parameters_taken_in_turn_lose_a_value() {
+        let lists = crate::read(include_str!("../../../examples/swap.txt")).expect("the example is a list");
+        let mut lent = Lent::new(1);
+        assert_eq!(lent.run(&lists[0], &mut Rng::new(1)), 0);
+        let session = Finished::of(&lists[0], &lent);
+        assert_eq!(supposed(&session), [true; 5]);
+        let acts = acts(&session);
+        let start = || Short { left: 3, contents: 0, wrong: 0 };
+        let (mut at_once, mut in_turn) = (start(), start());
+        walk(&session, &acts, &mut at_once);
+        walk_by(&session, &acts, &mut in_turn, go_in_turn);
+        assert_eq!(at_once.wrong, 0);
+        assert!(in_turn.wrong > 0);
     }
 }

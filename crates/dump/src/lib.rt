@@ -1,261 +1,324 @@
-// What a session leaves, line by line. Cells are read through `cell`, which answers 0 past the end, so that no count and no offset can lead astray.
-use crate::out::begin;
+// What a session leaves, line by line: in letters, for programs, or in words, for people. A new table takes a function here and a line in both of texts.rt.
+use crate::cells::cell;
+use crate::cells::entry;
 use crate::out::byte;
-use crate::out::end_line;
-use crate::out::end_list;
-use crate::out::number;
+use crate::say::Numbers;
+use crate::say::one;
+use crate::say::two;
+use crate::texts::line;
 
+mod cells;
 pub mod out;
-
-const BLOCKS: usize = entity::BLOCKS as usize;
-
-const VARIABLES: usize = entity::VARIABLES as usize;
-
-const DESTS: usize = entity::DESTS as usize;
-
-fn wide(x: u32) -> usize {
-    x as usize
-}
-
-fn cell(t: &[u32], start: usize, i: usize) -> usize {
-    if t.len() <= start {
-        return 0;
-    }
-    if t.len() - start <= i {
-        return 0;
-    }
-    wide(t[start + i])
-}
-
-// Where row i starts of a table of rows of parameters, pending variables or arguments.
-fn param_row(start: usize, i: usize) -> usize {
-    if entity::FORM_NEED <= start {
-        return 0;
-    }
-    if BLOCKS * DESTS <= i {
-        return 0;
-    }
-    start + i * entity::PARAM_ROW
-}
-
-fn dest_row(i: usize) -> usize {
-    if BLOCKS <= i {
-        return 0;
-    }
-    layout::DESTS + i * entity::DEST_ROW
-}
-
-fn pred_row(i: usize) -> usize {
-    if BLOCKS <= i {
-        return 0;
-    }
-    layout::PREDS + i * entity::PRED_ROW
-}
-
-// The number of destination j of block i among all.
-fn dest_number(i: usize, j: usize) -> usize {
-    if BLOCKS <= i {
-        return 0;
-    }
-    if DESTS <= j {
-        return 0;
-    }
-    i * DESTS + j
-}
-
-// The last definition of variable j in block i.
-fn definition(form: &[u32], i: usize, j: usize) -> usize {
-    if BLOCKS <= i {
-        return 0;
-    }
-    if VARIABLES <= j {
-        return 0;
-    }
-    cell(form, layout::DEFS, j * BLOCKS + i)
-}
+mod say;
+mod texts;
 
 // The entries of the row that starts at `at`, and the line's end.
-fn row(out: &mut [u8], n: usize, t: &[u32], at: usize) -> usize {
+fn row(out: &mut [u8], n: usize, in_words: bool, t: &[u32], at: usize, each: usize) -> usize {
     let k = cell(t, at, 0);
     let mut m = n;
     let mut i: usize = 0;
     while i < k {
-        m = number(out, m, cell(t, at, i + 1));
+        m = line(out, m, in_words, each, one(entry(t, at, i)));
         i += 1;
     }
-    end_line(out, m)
+    byte(out, m, b'\n')
 }
 
-// The session's answer.
-fn answer(out: &mut [u8], n: usize, x: usize) -> usize {
-    let m = begin(out, n, b'S', x);
-    end_line(out, m)
+// A line with the row's entries, of block i. In words an empty row has none.
+fn list(
+    out: &mut [u8],
+    n: usize,
+    in_words: bool,
+    t: &[u32],
+    at: usize,
+    i: usize,
+    which: usize,
+    each: usize,
+) -> usize {
+    if in_words && cell(t, at, 0) == 0 {
+        return n;
+    }
+    let m = line(out, n, in_words, which, one(i));
+    row(out, m, in_words, t, at, each)
 }
 
-fn counts(out: &mut [u8], n: usize, graph: &[u32], form: &[u32]) -> usize {
-    let mut m = begin(out, n, b'C', cell(graph, layout::BLOCK_COUNT, 0));
-    m = number(out, m, cell(graph, layout::TYPES, 0));
-    m = number(out, m, cell(form, layout::VALUE_COUNT, 0));
-    m = number(out, m, cell(form, layout::MADE_COUNT, 0));
-    m = number(out, m, cell(form, layout::ZERO_CALLS, 0));
-    end_line(out, m)
+// What a call asks and is answered, in words.
+fn told(out: &mut [u8], n: usize, code: usize, x: Numbers) -> usize {
+    let kind = x.a;
+    let m = texts::asked(out, n, kind, x);
+    if code == 0 {
+        return texts::answered(out, m, kind, x);
+    }
+    texts::reason(out, m, code, one(code))
+}
+
+fn answer(
+    out: &mut [u8],
+    n: usize,
+    in_words: bool,
+    calls: &[u32],
+    codes: &[u32],
+    numbers: &[u32],
+    i: usize,
+) -> usize {
+    let x = cells::call(calls, numbers, i);
+    let code = cell(codes, 0, i);
+    let m = line(out, n, in_words, texts::ANSWER, say::three(i, code, x.e));
+    if !in_words {
+        return m;
+    }
+    let k = told(out, m, code, x);
+    byte(out, k, b'\n')
 }
 
 // A line for each of the first k calls.
-fn answers(out: &mut [u8], n: usize, codes: &[u32], numbers: &[u32], k: usize) -> usize {
+fn answers(
+    out: &mut [u8],
+    n: usize,
+    in_words: bool,
+    calls: &[u32],
+    codes: &[u32],
+    numbers: &[u32],
+    k: usize,
+) -> usize {
     let mut m = n;
     let mut i: usize = 0;
     while i < k {
-        m = begin(out, m, b'A', i);
-        m = number(out, m, cell(codes, 0, i));
-        m = number(out, m, cell(numbers, 0, i));
-        m = end_line(out, m);
+        m = answer(out, m, in_words, calls, codes, numbers, i);
         i += 1;
     }
     m
 }
 
-fn value(out: &mut [u8], n: usize, form: &[u32], i: usize) -> usize {
-    let mut m = begin(out, n, b'V', i);
-    m = number(out, m, cell(form, layout::SORT, i));
-    m = number(out, m, cell(form, layout::TYPE, i));
-    m = number(out, m, cell(form, layout::BLOCK, i));
-    m = number(out, m, cell(form, layout::TARGET, i));
-    end_line(out, m)
+fn value_in_words(out: &mut [u8], n: usize, x: Numbers) -> usize {
+    let m = texts::sort(out, n, x.b, x);
+    if x.a == x.e {
+        return byte(out, m, b'\n');
+    }
+    texts::words(out, m, texts::VALUE, x)
 }
 
-fn values(out: &mut [u8], n: usize, form: &[u32]) -> usize {
-    let k = cell(form, layout::VALUE_COUNT, 0);
+fn value(out: &mut [u8], n: usize, in_words: bool, form: &[u32], i: usize) -> usize {
+    let x = cells::value(form, i);
+    if in_words {
+        return value_in_words(out, n, x);
+    }
+    line(out, n, in_words, texts::VALUE, x)
+}
+
+fn values(out: &mut [u8], n: usize, in_words: bool, form: &[u32]) -> usize {
+    let k = cells::value_count(form);
     let mut m = n;
     let mut i: usize = 0;
     while i < k {
-        m = value(out, m, form, i);
+        m = value(out, m, in_words, form, i);
         i += 1;
     }
     m
 }
 
-// A line for each destination of block i: its place, the block that it names, its arguments.
-fn destinations(out: &mut [u8], n: usize, graph: &[u32], form: &[u32], i: usize) -> usize {
-    let at = dest_row(i);
-    let k = cell(graph, at, 0);
+// Destination j of block i, with its arguments.
+fn destination(
+    out: &mut [u8],
+    n: usize,
+    in_words: bool,
+    graph: &[u32],
+    form: &[u32],
+    i: usize,
+    j: usize,
+) -> usize {
+    let x = cells::dest(graph, i, j);
+    let at = cells::arg_row(i, j);
+    let m = line(out, n, in_words, texts::DEST, x);
+    if in_words && 0 < cell(form, at, 0) {
+        let k = texts::words(out, m, texts::WITH, x);
+        return row(out, k, in_words, form, at, texts::VALUE_NUMBER);
+    }
+    row(out, m, in_words, form, at, texts::VALUE_NUMBER)
+}
+
+// The first k destinations of block i.
+fn destinations(
+    out: &mut [u8],
+    n: usize,
+    in_words: bool,
+    graph: &[u32],
+    form: &[u32],
+    i: usize,
+    k: usize,
+) -> usize {
     let mut m = n;
     let mut j: usize = 0;
     while j < k {
-        m = begin(out, m, b'D', i);
-        m = number(out, m, j);
-        m = number(out, m, cell(graph, at, j + 1));
-        m = row(out, m, form, param_row(layout::ARGS, dest_number(i, j)));
+        m = destination(out, m, in_words, graph, form, i, j);
         j += 1;
     }
     m
 }
 
-fn branch(out: &mut [u8], n: usize, graph: &[u32], form: &[u32], i: usize) -> usize {
+// In words a branch is told by its destinations, if it has any.
+fn branch(
+    out: &mut [u8],
+    n: usize,
+    in_words: bool,
+    graph: &[u32],
+    form: &[u32],
+    i: usize,
+) -> usize {
     if cell(graph, layout::BRANCHES, i) == 0 {
         return n;
     }
-    let mut m = begin(out, n, b'B', i);
-    m = number(out, m, cell(graph, dest_row(i), 0));
-    m = end_line(out, m);
-    destinations(out, m, graph, form, i)
+    let k = cell(graph, cells::dest_row(i), 0);
+    if in_words && 0 < k {
+        return destinations(out, n, in_words, graph, form, i, k);
+    }
+    let m = line(out, n, in_words, texts::BRANCH, two(i, k));
+    destinations(out, m, in_words, graph, form, i, k)
 }
 
-fn one_definition(out: &mut [u8], n: usize, form: &[u32], i: usize, j: usize) -> usize {
-    let x = definition(form, i, j);
-    if x == 0 {
+// What block i records last for variable j.
+fn definition(out: &mut [u8], n: usize, in_words: bool, form: &[u32], i: usize, j: usize) -> usize {
+    let x = cells::definition(form, i, j);
+    if x.c == 0 {
         return n;
     }
-    let mut m = begin(out, n, b'L', i);
-    m = number(out, m, j);
-    m = number(out, m, x);
-    end_line(out, m)
+    line(out, n, in_words, texts::DEFINITION, x)
 }
 
-// The last definitions in block i, of the first k variables.
-fn definitions(out: &mut [u8], n: usize, form: &[u32], i: usize, k: usize) -> usize {
+// Of the first k variables.
+fn definitions(
+    out: &mut [u8],
+    n: usize,
+    in_words: bool,
+    form: &[u32],
+    i: usize,
+    k: usize,
+) -> usize {
     let mut m = n;
     let mut j: usize = 0;
     while j < k {
-        m = one_definition(out, m, form, i, j);
+        m = definition(out, m, in_words, form, i, j);
         j += 1;
     }
     m
 }
 
+fn sealed(out: &mut [u8], n: usize, in_words: bool, graph: &[u32], i: usize) -> usize {
+    let x = cell(graph, layout::SEALED, i);
+    if x == 0 {
+        return line(out, n, in_words, texts::UNSEALED, two(i, x));
+    }
+    line(out, n, in_words, texts::SEALED, two(i, x))
+}
+
 // Block i's predecessors, its pending variables, and whether it is sealed.
-fn entries(out: &mut [u8], n: usize, graph: &[u32], form: &[u32], i: usize) -> usize {
-    let mut m = begin(out, n, b'R', i);
-    m = row(out, m, graph, pred_row(i));
-    m = begin(out, m, b'U', i);
-    m = row(out, m, form, param_row(layout::PENDING, i));
-    m = begin(out, m, b'E', i);
-    m = number(out, m, cell(graph, layout::SEALED, i));
-    end_line(out, m)
+fn entries(
+    out: &mut [u8],
+    n: usize,
+    in_words: bool,
+    graph: &[u32],
+    form: &[u32],
+    i: usize,
+) -> usize {
+    let at = cells::pred_row(i);
+    let m = list(out, n, in_words, graph, at, i, texts::PREDS, texts::NUMBER);
+    let pending = cells::param_row(layout::PENDING, i);
+    let k = list(
+        out,
+        m,
+        in_words,
+        form,
+        pending,
+        i,
+        texts::PENDING,
+        texts::NUMBER,
+    );
+    sealed(out, k, in_words, graph, i)
 }
 
-fn block(out: &mut [u8], n: usize, graph: &[u32], form: &[u32], i: usize) -> usize {
-    let mut m = begin(out, n, b'P', i);
-    m = row(out, m, form, param_row(layout::PARAMS, i));
-    m = branch(out, m, graph, form, i);
-    m = entries(out, m, graph, form, i);
-    definitions(out, m, form, i, cell(graph, layout::TYPES, 0))
+fn block(out: &mut [u8], n: usize, in_words: bool, graph: &[u32], form: &[u32], i: usize) -> usize {
+    let at = cells::param_row(layout::PARAMS, i);
+    let mut m = list(
+        out,
+        n,
+        in_words,
+        form,
+        at,
+        i,
+        texts::PARAMS,
+        texts::VALUE_NUMBER,
+    );
+    m = branch(out, m, in_words, graph, form, i);
+    m = entries(out, m, in_words, graph, form, i);
+    definitions(out, m, in_words, form, i, cells::variable_count(graph))
 }
 
-fn blocks(out: &mut [u8], n: usize, graph: &[u32], form: &[u32]) -> usize {
-    let k = cell(graph, layout::BLOCK_COUNT, 0);
+fn blocks(out: &mut [u8], n: usize, in_words: bool, graph: &[u32], form: &[u32]) -> usize {
+    let k = cells::block_count(graph);
     let mut m = n;
     let mut i: usize = 0;
     while i < k {
-        m = block(out, m, graph, form, i);
+        m = block(out, m, in_words, graph, form, i);
         i += 1;
     }
     m
 }
 
-// The zero log: a line for each zero, with the call and the block.
-fn zeros(out: &mut [u8], n: usize, form: &[u32]) -> usize {
-    let k = cell(form, layout::ZERO_CALLS, 0);
+fn zeros(out: &mut [u8], n: usize, in_words: bool, form: &[u32]) -> usize {
+    let k = cells::zero_count(form);
     let mut m = n;
     let mut i: usize = 0;
     while i < k {
-        m = begin(out, m, b'Z', i);
-        m = number(out, m, cell(form, layout::ZERO_CALLS, i + 1));
-        m = number(out, m, cell(form, layout::ZERO_BLOCKS, i + 1));
-        m = end_line(out, m);
+        m = line(out, m, in_words, texts::ZERO, cells::zero(form, i));
         i += 1;
     }
     m
 }
 
-// The blocks in the order in which they were placed.
-fn placed(out: &mut [u8], n: usize, form: &[u32]) -> usize {
-    let m = byte(out, n, b'O');
-    row(out, m, form, layout::PLACED)
+// The tables, one after the other.
+fn tables(out: &mut [u8], n: usize, in_words: bool, graph: &[u32], form: &[u32]) -> usize {
+    let mut m = values(out, n, in_words, form);
+    m = blocks(out, m, in_words, graph, form);
+    m = zeros(out, m, in_words, form);
+    list(
+        out,
+        m,
+        in_words,
+        form,
+        layout::PLACED,
+        0,
+        texts::PLACED,
+        texts::NUMBER,
+    )
 }
 
-// A session that was not run: its answer is all there is to tell.
-pub fn refused(out: &mut [u8], n: usize) -> usize {
-    let m = answer(out, n, 2);
-    end_list(out, m)
+// A list that was not run: its answer is all there is to tell.
+pub fn refused(out: &mut [u8], n: usize, in_words: bool) -> usize {
+    let m = line(
+        out,
+        n,
+        in_words,
+        texts::REFUSED,
+        two(2, entity::CALLS as usize),
+    );
+    line(out, m, in_words, texts::END, one(0))
 }
 
 // A session of k calls that was run.
 pub fn dump(
     out: &mut [u8],
     n: usize,
+    in_words: bool,
     k: usize,
+    calls: &[u32],
     codes: &[u32],
     numbers: &[u32],
     graph: &[u32],
     form: &[u32],
 ) -> usize {
-    let mut m = answer(out, n, 0);
-    m = counts(out, m, graph, form);
-    m = answers(out, m, codes, numbers, k);
-    m = values(out, m, form);
-    m = blocks(out, m, graph, form);
-    m = zeros(out, m, form);
-    m = placed(out, m, form);
-    end_list(out, m)
+    let mut m = line(out, n, in_words, texts::RUN, two(0, k));
+    m = line(out, m, in_words, texts::COUNTS, cells::counts(graph, form));
+    m = answers(out, m, in_words, calls, codes, numbers, k);
+    m = tables(out, m, in_words, graph, form);
+    line(out, m, in_words, texts::END, one(0))
 }

@@ -1,8 +1,35 @@
 // What C and Rust link: the public calls under names of their own.
+ghost use mathlib.Core.Path.{_≡_};
 ghost use Rattle.definition.specs.Resolve.{Resolved};
 ghost use Rattle.layout.specs.Outcome.{lent};
 ghost use Rattle.session.specs.Ends.{Ended};
+ghost use Rattle.exports.specs.Told.{told};
+use entity::Type;
 use entity::Value;
+
+// Raised when an exported call takes, answers or leaves something else: a host built for another version refuses to start.
+pub const VERSION: u32 = 1;
+
+// Kinds of call are numbered from 1 to this.
+pub const KINDS: u32 = 14;
+
+// Sorts of value are numbered from 0.
+pub const SORTS: u32 = 3;
+
+const TOLD: [u32; 12] = [
+    VERSION,
+    entity::BLOCKS,
+    entity::VARIABLES,
+    entity::DESTS,
+    entity::MADE,
+    entity::CALLS,
+    entity::GRAPH_NEED as u32,
+    entity::FORM_NEED as u32,
+    entity::WORK_NEED as u32,
+    KINDS,
+    Type::COUNT,
+    SORTS,
+];
 
 // Code and number of a resolved alias, as C sees them.
 #[repr(C)]
@@ -41,4 +68,13 @@ pub extern "C" fn sangvireb_resolve(targets: &[u32], value: u32) -> SangvirebAns
         code: a.code,
         number: a.number,
     }
+}
+
+// Tells a host what this library was built for. The places keep their meaning from version to version; a place past them gets 0.
+#[no_mangle]
+pub extern "C" fn sangvireb_limit(which: u32) -> u32
+    ensures { λ r. ⌜ r ≡ told which ⌝ }
+{
+    let at = which as usize;
+    if at < TOLD.len() { TOLD[at] } else { 0 }
 }

@@ -1,6 +1,6 @@
 //! Short words for building small graphs.
 #![allow(dead_code)] // each test file takes what it needs
-use sangvireb::{Block, Branch, SSABuilder, Type, Value, Variable};
+use sangvireb::{Block, Branch, Refusal, Refused, SSABuilder, Type, Value, Variable};
 
 pub const FIRST: Variable = Variable(0);
 pub const SECOND: Variable = Variable(1);
@@ -22,16 +22,13 @@ pub fn set(ssa: &mut SSABuilder, variable: Variable, block: u32) -> Value {
     value
 }
 
-/// Ends a block with a branch to these, which may name one twice, and declares it to each.
-pub fn jump(ssa: &mut SSABuilder, from: u32, to: &[u32]) -> Branch {
-    let branch = ssa.new_branch(Block(from)).unwrap();
-    for (place, &target) in to.iter().enumerate() {
-        assert_eq!(ssa.new_dest(branch, Block(target)), Ok(place as u32));
-    }
-    for (place, &target) in to.iter().enumerate() {
-        if !to[..place].contains(&target) {
-            ssa.declare_block_predecessor(Block(target), branch).unwrap();
-        }
-    }
-    branch
+/// Ends a block with a branch to these, which may name one twice.
+pub fn branch(ssa: &mut SSABuilder, from: u32, to: &[u32]) -> Branch {
+    let to: Vec<Block> = to.iter().copied().map(Block).collect();
+    ssa.branch(Block(from), &to).unwrap()
+}
+
+/// Refusals by their code alone.
+pub fn code<T>(answer: Result<T, Refused>) -> Result<T, Refusal> {
+    answer.map_err(|refused| refused.refusal())
 }

@@ -8,15 +8,14 @@ use Rattle.dump.proofs.answers.Statement.{statement}
 use Rattle.dump.proofs.answers.Tie as tie
 
 abbrev Inv-loop : tie.InvT-loop
-Inv-loop out₀ n codes numbers k m₀ i₀ out m i = (length out ≡ length out₀)
+Inv-loop out₀ n in-words calls codes numbers k m₀ i₀ out m i = (length out ≡ length out₀)
 
 abbrev μ-loop : tie.MeasureT-loop
-μ-loop out₀ n codes numbers k m₀ i₀ out m i = k - i
+μ-loop out₀ n in-words calls codes numbers k m₀ i₀ out m i = k - i
 
 pub answers-spec : {M : Type 1} → statement M
 answers-spec =
     tie.close
     (tie.spec
-    Inv-loop μ-loop (λ c. search needs) (λ c κs. search needs) (λ c κs. search needs) (λ c κs. search needs)
-    (λ c κs. search needs) (λ c κs. search needs) (λ c κs. search needs) (λ c. search needs) (λ c. search needs)
+    Inv-loop μ-loop (λ c. search needs) (λ c κs. search needs) (λ c. search needs) (λ c. search needs)
     (λ c. search needs) (λ c. search needs) (λ c. search needs))

@@ -8,14 +8,14 @@ use Rattle.dump.proofs.definitions.Statement.{statement}
 use Rattle.dump.proofs.definitions.Tie as tie
 
 abbrev Inv-loop : tie.InvT-loop
-Inv-loop out₀ n form i k m₀ j₀ out m j = (length out ≡ length out₀)
+Inv-loop out₀ n in-words form i k m₀ j₀ out m j = (length out ≡ length out₀)
 
 abbrev μ-loop : tie.MeasureT-loop
-μ-loop out₀ n form i k m₀ j₀ out m j = k - j
+μ-loop out₀ n in-words form i k m₀ j₀ out m j = k - j
 
 pub definitions-spec : {M : Type 1} → statement M
 definitions-spec =
     tie.close
     (tie.spec
-    Inv-loop μ-loop (λ c. search needs) (λ c κs. search needs) (λ c. search needs) (λ c. search needs) (λ c. search needs)
-    (λ c. search needs) (λ c. search needs))
+    Inv-loop μ-loop (λ c. search needs) (λ c κs. search needs) (λ c. search needs) (λ c. search needs)
+    (λ c. search needs) (λ c. search needs) (λ c. search needs))

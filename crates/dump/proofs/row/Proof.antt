@@ -8,15 +8,15 @@ use Rattle.dump.proofs.row.Statement.{statement}
 use Rattle.dump.proofs.row.Tie as tie
 
 abbrev Inv-loop : tie.InvT-loop
-Inv-loop out₀ n t at k m₀ i₀ out m i = (length out ≡ length out₀)
+Inv-loop out₀ n in-words t at each k m₀ i₀ out m i = (length out ≡ length out₀)
 
 abbrev μ-loop : tie.MeasureT-loop
-μ-loop out₀ n t at k m₀ i₀ out m i = k - i
+μ-loop out₀ n in-words t at each k m₀ i₀ out m i = k - i
 
 pub row-spec : {M : Type 1} → statement M
 row-spec =
     tie.close
     (tie.spec
-    Inv-loop μ-loop (λ c κs. search needs) (λ c. search needs) (λ c. search needs) (λ c κs. search needs)
+    Inv-loop μ-loop (λ c κs. search needs) (λ c. search needs) (λ c κs. search needs) (λ c κs. search needs)
     (λ c κs. search needs) (λ c. search needs) (λ c. search needs) (λ c. search needs) (λ c κs. search needs)
     (λ c. search needs) (λ c. search needs))

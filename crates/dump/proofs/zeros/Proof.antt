@@ -8,16 +8,14 @@ use Rattle.dump.proofs.zeros.Statement.{statement}
 use Rattle.dump.proofs.zeros.Tie as tie
 
 abbrev Inv-loop : tie.InvT-loop
-Inv-loop out₀ n form k m₀ i₀ out m i = (length out ≡ length out₀)
+Inv-loop out₀ n in-words form k m₀ i₀ out m i = (length out ≡ length out₀)
 
 abbrev μ-loop : tie.MeasureT-loop
-μ-loop out₀ n form k m₀ i₀ out m i = k - i
+μ-loop out₀ n in-words form k m₀ i₀ out m i = k - i
 
 pub zeros-spec : {M : Type 1} → statement M
 zeros-spec =
     tie.close
     (tie.spec
-    Inv-loop μ-loop (λ c κs. search needs) (λ c. search needs) (λ c κs. search needs) (λ c. search needs)
-    (λ c κs. search needs) (λ c κs. search needs) (λ c. search needs) (λ c κs. search needs) (λ c κs. search needs)
-    (λ c κs. search needs) (λ c. search needs) (λ c. search needs) (λ c. search needs) (λ c. search needs)
-    (λ c. search needs))
+    Inv-loop μ-loop (λ c κs. search needs) (λ c. search needs) (λ c κs. search needs) (λ c κs. search needs)
+    (λ c. search needs) (λ c. search needs) (λ c. search needs) (λ c. search needs) (λ c. search needs))

@@ -7,14 +7,15 @@ use Rattle.sangvireb.proofs.read_all.Statement.{statement}
 use Rattle.sangvireb.proofs.read_all.Tie as tie
 
 abbrev Inv-loop : tie.InvT-loop
-Inv-loop out₀ calls₀ t₀ turns₀ out calls t turns = (length out ≡ length out₀) × (length calls ≡ length calls₀)
+Inv-loop fd name out₀ calls₀ t₀ turns₀ out calls t turns = (length out ≡ length out₀) × (length calls ≡ length calls₀)
 
 abbrev μ-loop : tie.MeasureT-loop
-μ-loop out₀ calls₀ t₀ turns₀ out calls t turns = turns
+μ-loop fd name out₀ calls₀ t₀ turns₀ out calls t turns = turns
 
 pub read-all-spec : {M : Type 1} → statement M
 read-all-spec =
     tie.close
     (tie.spec
-    Inv-loop μ-loop (λ c. search needs) (λ c. search needs) (λ c. search needs) (λ c. search needs) (λ c κs. search needs)
-    (λ c. search needs) (λ c. search needs) (λ c. search needs) (λ c. search needs) (λ c. search needs) (λ c. search needs))
+    Inv-loop μ-loop (λ c. search needs) (λ c. search needs) (λ c. search needs) (λ c. search needs)
+    (λ c κs. search needs) (λ c. search needs) (λ c. search needs) (λ c. search needs) (λ c. search needs)
+    (λ c. search needs) (λ c. search needs))

@@ -1,0 +1,131 @@
+//! Why a call was refused, in words: which of its numbers is at fault, and the limit. Read from the tables as the call found them.
+use crate::call::NO_CALL;
+use crate::{raw, Block, Branch, Kind, Refusal, Session, Type, Value, Variable};
+use std::fmt;
+
+/// A thing that a call or a question names by its number.
+#[derive(Clone, Copy)]
+pub(crate) enum Named {
+    Block(u32),
+    Variable(u32),
+    Type(u32),
+    Value(u32),
+    Branch(u32),
+    Use(u32),
+}
+
+/// What a call of these numbers names, in the order of its checks.
+fn named([kind, x, y, z]: [u32; 4]) -> Vec<Named> {
+    let Some(kind) = Kind::from_number(kind) else { return vec![] };
+    match kind {
+        Kind::DeclareBlock | Kind::SealAllBlocks => vec![],
+        Kind::DeclareVar => vec![Named::Type(y)],
+        Kind::MakeValue => vec![Named::Block(x), Named::Type(y)],
+        Kind::DefVar => vec![Named::Variable(x), Named::Value(y), Named::Block(z)],
+        Kind::DefVarAnswer => vec![Named::Variable(x), Named::Use(y), Named::Block(z)],
+        Kind::UseVar => vec![Named::Variable(x), Named::Block(y)],
+        Kind::NewDest => vec![Named::Branch(x), Named::Block(y)],
+        Kind::DeclareBlockPredecessor | Kind::RemoveBlockPredecessor => vec![Named::Block(x), Named::Branch(y)],
+        Kind::NewBranch | Kind::SealBlock | Kind::HasAnyPredecessors | Kind::IsSealed => vec![Named::Block(x)],
+    }
+}
+
+impl Named {
+    /// Why it isn't there, if it isn't.
+    pub(crate) fn missing(self, session: &Session) -> Option<String> {
+        match self {
+            Named::Block(x) => past(x, session.block_count(), "block", "declared"),
+            Named::Variable(x) => past(x, session.variable_count(), "variable", "declared"),
+            Named::Value(x) => past(x, session.value_count(), "value", "there"),
+            Named::Type(x) if Type::from_number(x).is_some() => None,
+            Named::Type(x) => Some(format!("type {x} is unknown; types are 0 to {}", Type::ALL.len() - 1)),
+            Named::Branch(x) => match session.branch(Block(x)) {
+                Err(refused) => Some(refused.to_string()),
+                Ok(branch) => branch.is_none().then(|| format!("{} has no branch", Block(x))),
+            },
+            Named::Use(NO_CALL) => Some("a list takes the answers of its own uses alone".into()),
+            Named::Use(place) => not_a_use(session, place as usize),
+        }
+    }
+}
+
+/// "block 9 is not declared; 3 blocks are"
+fn past(number: u32, count: u32, word: &str, state: &str) -> Option<String> {
+    if number < count {
+        return None;
+    }
+    let those = match count {
+        0 => format!("no {word} is"),
+        1 => format!("1 {word} is"),
+        _ => format!("{count} {word}s are"),
+    };
+    Some(format!("{word} {number} is not {state}; {those}"))
+}
+
+fn not_a_use(session: &Session, place: usize) -> Option<String> {
+    match session.list().calls().nth(place) {
+        None => Some(format!("call {place} doesn't come before it")),
+        Some([kind, ..]) if kind != Kind::UseVar.number() => Some(format!("call {place} is no use_var")),
+        Some(_) => session.answers().nth(place)?.err().map(|_| format!("call {place} was refused")),
+    }
+}
+
+/// Why the call was refused that found the session in this state.
+pub(crate) fn reason(before: &Session, call: [u32; 4], refusal: Refusal) -> String {
+    let [number, x, y, _] = call;
+    let kind = Kind::from_number(number);
+    let names_both = matches!(kind, Some(Kind::DeclareBlockPredecessor | Kind::RemoveBlockPredecessor));
+    let (block, branch) = (Block(x), Branch(if names_both { y } else { x }));
+    match refusal {
+        Refusal::UnknownKind => format!("kinds are 1 to {}", Kind::ALL.len()),
+        Refusal::Full if before.call_count() >= raw::CALLS => format!("{} calls are made, which is the limit", raw::CALLS),
+        Refusal::Full => match kind {
+            Some(Kind::DeclareBlock) => format!("the limit is {} blocks, 0 to {}", raw::BLOCKS, raw::BLOCKS - 1),
+            Some(Kind::DeclareVar) => format!("the limit is {} variables, 0 to {}", raw::VARIABLES, raw::VARIABLES - 1),
+            _ => format!("{} values are made, which is the limit", raw::MADE),
+        },
+        Refusal::Skips if kind == Some(Kind::DeclareBlock) => format!("the next is {}", Block(before.block_count())),
+        Refusal::Skips => format!("the next is {}", Variable(before.variable_count())),
+        Refusal::Absent => named(call).into_iter().find_map(|named| named.missing(before)).unwrap_or_else(|| refusal.to_string()),
+        Refusal::TypesDiffer => types(before, call).unwrap_or_else(|| refusal.to_string()),
+        Refusal::IsSealed => format!("{block} is sealed"),
+        Refusal::HasBranch => format!("{block} has its branch already"),
+        Refusal::DestsFull => format!("{branch} has {} destinations, which is the limit", raw::DESTS),
+        Refusal::Declared => format!("{branch} is declared to {}, so its destinations are fixed", declared_to(before, branch)),
+        Refusal::DeclaredHere => format!("{branch} is declared to {block} already"),
+        Refusal::NoEdge if kind == Some(Kind::RemoveBlockPredecessor) => format!("{branch} is not declared to {block}"),
+        Refusal::NoEdge => format!("{branch} leads to {}", leads_to(before, branch)),
+        Refusal::NoEnd => refusal.to_string(),
+    }
+}
+
+fn types(before: &Session, [kind, x, y, _]: [u32; 4]) -> Option<String> {
+    let variable = Variable(x);
+    let wanted = before.type_of(variable).ok()?;
+    let value = match Kind::from_number(kind)? {
+        Kind::DefVar => Value(y),
+        Kind::DefVarAnswer => Value(before.answers().nth(y as usize)?.ok()?),
+        _ => return Some(format!("{variable} is declared as {wanted}")),
+    };
+    Some(format!("{variable} is {wanted} and {value} is {}", before.value(value).ok()?.ty))
+}
+
+fn declared_to(before: &Session, branch: Branch) -> String {
+    let declared = |block: &Block| before.predecessors(*block).is_ok_and(|mut branches| branches.any(|other| other == branch));
+    words("", before.blocks().filter(declared))
+}
+
+fn leads_to(before: &Session, branch: Branch) -> String {
+    let targets = before.destinations(branch).into_iter().flatten().map(|way| way.target);
+    Some(words("", targets)).filter(|words| !words.is_empty()).unwrap_or("nothing yet".into())
+}
+
+/// "block 1, block 2" after some words; no words if there is nothing.
+pub(crate) fn words(before: &str, things: impl Iterator<Item = impl fmt::Display>) -> String {
+    let words: Vec<String> = things.map(|thing| thing.to_string()).collect();
+    if words.is_empty() {
+        String::new()
+    } else {
+        before.to_string() + &words.join(", ")
+    }
+}

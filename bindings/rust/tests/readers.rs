@@ -1,0 +1,103 @@
+//! What a session is asked for: arguments and answers with aliases resolved, the zeros of a block, branches made whole.
+mod common;
+use common::{branch, builder, code, set, FIRST};
+use sangvireb::{Block, Branch, List, Refusal, Sort, Type, Value, Variable};
+
+#[test]
+fn arguments_and_answers_resolved() {
+    // A loop in a loop that keeps the variable: the inner head's parameter becomes an alias of the outer one's.
+    let mut list = List::new();
+    for block in 0..4 {
+        let _ = list.declare_block(Block(block));
+    }
+    let _ = list.declare_var(FIRST, Type::I32);
+    let _ = list.make_value(Block(0), Type::I32);
+    let _ = list.def_var(FIRST, Value(0), Block(0));
+    let _ = list.jump(Block(0), Block(1));
+    let outer = list.use_var(FIRST, Block(1));
+    let _ = list.jump(Block(1), Block(2));
+    let inner = list.use_var(FIRST, Block(2));
+    let _ = list.branch(Block(2), &[Block(2), Block(3)]);
+    let _ = list.seal_block(Block(2));
+    let _ = list.seal_block(Block(3));
+    let kept = list.def_var_answer(FIRST, inner, Block(3));
+    let _ = list.make_value(Block(3), Type::I32);
+    let _ = list.jump(Block(3), Block(1));
+    let _ = list.seal_all_blocks();
+    let session = list.run().unwrap();
+    assert_eq!((session.answer(outer), session.answer(inner), session.answer(kept)), (Ok(Value(1)), Ok(Value(2)), Ok(Value(2))));
+    assert_eq!((session.resolved(outer), session.resolved(inner)), (Ok(Value(0)), Ok(Value(0))));
+}
+
+#[test]
+fn an_argument_that_became_an_alias() {
+    // Block 1 passes its own parameter on before it is sealed and turns out to be value 0.
+    let mut ssa = builder(4);
+    let first = set(&mut ssa, FIRST, 0);
+    branch(&mut ssa, 0, &[1, 2]);
+    let waits = ssa.use_var(FIRST, Block(1)).unwrap();
+    branch(&mut ssa, 1, &[3]);
+    ssa.seal_block(Block(2)).unwrap();
+    let other = set(&mut ssa, FIRST, 2);
+    branch(&mut ssa, 2, &[3]);
+    ssa.seal_block(Block(3)).unwrap();
+    let merged = ssa.use_var(FIRST, Block(3)).unwrap();
+    ssa.seal_all_blocks().unwrap();
+    let session = ssa.session();
+    assert!(session.params(Block(3)).unwrap().eq([merged]));
+    let ways = [1, 2].map(|from| session.destinations(Branch(from)).unwrap().next().unwrap());
+    assert!(ways[0].args.clone().eq([waits]) && ways[0].resolved().eq([first]));
+    assert!(ways[1].args.clone().eq([other]) && ways[1].resolved().eq([other]));
+}
+
+#[test]
+fn the_zeros_of_a_block() {
+    let mut ssa = builder(2);
+    ssa.declare_var(Variable(1), Type::F64).unwrap();
+    ssa.seal_all_blocks().unwrap();
+    let [whole, float] = [0, 1].map(|variable| ssa.use_var(Variable(variable), Block(0)).unwrap());
+    let session = ssa.session();
+    let zeros: Vec<_> = session.zeros(Block(0)).unwrap().map(|data| (data.value, data.ty, data.sort)).collect();
+    assert_eq!(zeros, [(whole, Type::I32, Sort::Zero), (float, Type::F64, Sort::Zero)]);
+    assert_eq!(session.zeros(Block(1)).unwrap().count(), 0);
+}
+
+#[test]
+fn jump_and_branch_are_the_calls_written_out() {
+    let (mut short, mut long) = (List::new(), List::new());
+    for list in [&mut short, &mut long] {
+        for block in 0..3 {
+            let _ = list.declare_block(Block(block));
+        }
+    }
+    let ended = short.branch(Block(0), &[Block(1), Block(2), Block(1)]);
+    let _ = short.jump(Block(1), Block(2));
+    let _ = long.new_branch(Block(0));
+    for to in [1, 2, 1] {
+        let _ = long.new_dest(Branch(0), Block(to));
+    }
+    for to in [1, 2] {
+        let _ = long.declare_block_predecessor(Block(to), Branch(0));
+    }
+    let _ = long.new_branch(Block(1));
+    let _ = long.new_dest(Branch(1), Block(2));
+    let _ = long.declare_block_predecessor(Block(2), Branch(1));
+    assert_eq!(short, long);
+    assert_eq!(short.run().unwrap().answer(ended), Ok(Branch(0)));
+
+    let mut ssa = builder(3);
+    assert_eq!(ssa.branch(Block(0), &[Block(1), Block(2), Block(1)]), Ok(Branch(0)));
+    assert_eq!(ssa.jump(Block(1), Block(2)), Ok(Branch(1)));
+    assert!(ssa.session().predecessors(Block(2)).unwrap().eq([Branch(0), Branch(1)]));
+    assert_eq!(code(ssa.jump(Block(1), Block(2))), Err(Refusal::HasBranch));
+}
+
+#[test]
+fn a_cleared_builder_is_as_new() {
+    let mut ssa = builder(4);
+    set(&mut ssa, FIRST, 2);
+    ssa.clear();
+    assert!(ssa.list().is_empty());
+    assert!(ssa.session().graph().iter().chain(ssa.session().form()).all(|&cell| cell == 0));
+    assert_eq!(ssa.declare_block(Block(0)), Ok(Block(0)));
+}

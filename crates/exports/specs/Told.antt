@@ -1,0 +1,39 @@
+-- What a host is told of the library that it has linked: a version, the limits, the needs, and how many kinds, types and sorts there are.
+-- Assumes nothing.
+use Prim.Native.Nat.{ℕ}
+use mathlib.Core.List.{List, [], _∷_}
+use lib.ListN.{getD}
+use Rattle.entity.specs.Limits.{limits, graph-need, form-need, work-need}
+use Rattle.entity.specs.Types.{type-count}
+
+-- rises when an exported call takes, answers or leaves something else, or has another name
+abbrev pub version : ℕ
+version = 1
+
+-- kinds of call are numbered from 1 to this
+abbrev pub kind-count : ℕ
+kind-count = 14
+
+-- sorts of value are numbered from 0
+abbrev pub sort-count : ℕ
+sort-count = 3
+
+abbrev pub all-told : List ℕ
+all-told =
+    version  -- 0
+    ∷ limits .blocks  -- 1
+    ∷ limits .variables  -- 2
+    ∷ limits .dests  -- 3
+    ∷ limits .made  -- 4
+    ∷ limits .calls  -- 5
+    ∷ graph-need limits  -- 6
+    ∷ form-need limits  -- 7
+    ∷ work-need limits  -- 8
+    ∷ kind-count  -- 9
+    ∷ type-count  -- 10
+    ∷ sort-count  -- 11
+    ∷ []
+
+-- what stands at this place, 0 for any other
+abbrev pub told : ℕ → ℕ
+told which = getD all-told which 0

@@ -1,0 +1,36 @@
+// What --help prints.
+pub fn help(out: &mut [u8], n: usize) -> usize {
+    dump::out::text(
+        out,
+        n,
+        b"sangvireb [--words] [FILE..]
+
+Runs lists of calls of the SSA builder and prints what each session leaves: the lists of the files, or of
+standard input if no file is named. A list is a line with its number of calls, then a line `kind x y z` for
+each call; lists follow each other.
+
+--words  prints words instead of letters
+--help   prints this
+
+The exit status is always 0: a program of this language can set no other. What can't be read or written is
+told on standard error, so a script looks whether anything stands there. A list that was not read whole has
+no END.
+
+S code                      0 run, 2 refused whole: more calls than a session takes
+C counts                    blocks, variables, values, made values, zeros
+A call code number          the answer to a call; code 0 is accepted
+V value sort type block target
+                            sort 0 made, 1 parameter, 2 zero; the target is the value itself, or what replaces it
+P block values              the block's parameters
+B block count               its branch has so many destinations
+D block place to values     a destination of its branch, with the arguments
+R block blocks              its predecessors
+U block variables           its pending variables
+E block mark                1 if it is sealed
+L block variable value+1    the value that it records last for the variable, plus one
+Z row call block            a row of the zero log
+O blocks                    the blocks in the order placed
+END                         of the list
+",
+    )
+}

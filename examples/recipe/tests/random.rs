@@ -1,0 +1,109 @@
+//! Random scripts: the SSA form gives what the script itself gives, and every script is built by the rules under which the library is
+//! proved right.
+mod writer;
+use recipe::compile::{compile, Recipe};
+use recipe::direct;
+use recipe::form::{Form, Op};
+use recipe::number::Number;
+use sangvireb::{Block, Kind, SSABuilder, Sort, Type, Value};
+use writer::{Rng, Writer, INPUTS};
+
+const SCRIPTS: u64 = 3000;
+const SEED: u64 = 11;
+/// More than any of these scripts needs: their loops count.
+const ENOUGH: usize = 100_000;
+
+fn script(number: u64) -> (String, Rng) {
+    let mut rng = Rng::new(SEED * 1_000_003 + number);
+    (Writer::script(&mut rng), rng)
+}
+
+fn inputs(rng: &mut Rng) -> Vec<Number> {
+    (0..INPUTS).map(|place| if place % 2 == 0 { Number::Float(rng.float()) } else { Number::Int(rng.int()) }).collect()
+}
+
+/// The five suppositions, read from the calls and the tables.
+fn supposed(ssa: &SSABuilder) -> [bool; 5] {
+    let session = ssa.session();
+    let ways = || {
+        let branches = session.blocks().filter_map(|block| session.branch(block).unwrap());
+        branches.flat_map(|branch| session.destinations(branch).unwrap().map(move |way| (branch, way.target)))
+    };
+    let (mut late, mut foreign) = (false, false);
+    let mut declared = vec![];
+    let mut own = vec![];
+    for ([kind, x, y, z], answer) in ssa.list().calls().zip(session.answers()) {
+        let answer = answer.expect("a builder keeps accepted calls");
+        match Kind::from_number(kind).unwrap() {
+            Kind::MakeValue => own.push((x, answer)),
+            Kind::UseVar => own.push((y, answer)),
+            Kind::DeclareBlockPredecessor => declared.push(y),
+            Kind::DefVar => {
+                late |= declared.contains(&z);
+                foreign |= !own.contains(&(z, y));
+            }
+            _ => {}
+        }
+    }
+    [
+        session.blocks().all(|block| session.is_sealed(block).unwrap()),
+        ways().all(|(_, to)| to != Block(0)),
+        ways().all(|(branch, to)| session.predecessors(to).unwrap().any(|other| other == branch)),
+        !late,
+        !foreign,
+    ]
+}
+
+#[test]
+fn the_form_gives_what_the_script_gives() {
+    let (mut merges, mut zeros, mut aliases) = (0, 0, 0);
+    for number in 0..SCRIPTS {
+        let (script, mut rng) = script(number);
+        let Recipe { form, ssa } = compile(&script).unwrap_or_else(|said| panic!("{said}\n{script}"));
+        assert_eq!(supposed(&ssa), [true; 5], "{script}");
+        assert!(fed(&form), "{script}");
+        for _ in 0..4 {
+            let inputs = inputs(&mut rng);
+            let expected = direct::run(&script, &inputs, ENOUGH).expect("its loops count");
+            assert_eq!(form.run(&inputs, ENOUGH), Ok(expected), "script {number} with {inputs:?}:\n{script}");
+        }
+        merges += usize::from(form.blocks.iter().any(|body| !body.params.is_empty()));
+        zeros += usize::from(form.blocks.iter().any(|body| !body.unset.is_empty()));
+        aliases += usize::from(ssa.session().values().any(|data| data.sort == Sort::Parameter && data.target != data.value));
+    }
+    // most scripts show what matters
+    assert!([merges, zeros, aliases].iter().all(|&count| count > SCRIPTS as usize / 2), "{merges} {zeros} {aliases}");
+}
+
+/// Has each way an argument for each parameter?
+fn fed(form: &Form) -> bool {
+    let mut ways = form.blocks.iter().flat_map(|body| &body.ways);
+    ways.all(|way| way.args.len() == form.blocks[way.to.0 as usize].params.len())
+}
+
+#[test]
+fn a_wrong_merge_is_seen() {
+    let (mut tried, mut seen) = (0, 0);
+    for number in 0..300 {
+        let (script, mut rng) = script(number);
+        let Recipe { mut form, ssa } = compile(&script).unwrap();
+        // one way passes a number of its own in place of its first argument
+        let mut ways = form.blocks.iter_mut().flat_map(|body| &mut body.ways);
+        let Some(arg) = ways.find_map(|way| way.args.first_mut()) else { continue };
+        let wrong = Value(form.values as u32);
+        let old = std::mem::replace(arg, wrong);
+        form.values += 1;
+        let number = match ssa.session().value(old).unwrap().ty {
+            Type::F64 => Number::Float(12345.5),
+            _ => Number::Int(54321),
+        };
+        form.blocks[0].steps.insert(0, (wrong, Op::Constant(number)));
+        tried += 1;
+        let differs = (0..4).any(|_| {
+            let inputs = inputs(&mut rng);
+            form.run(&inputs, ENOUGH) != Ok(direct::run(&script, &inputs, ENOUGH).unwrap())
+        });
+        seen += usize::from(differs);
+    }
+    assert!(tried > 200 && seen > tried / 10, "{seen} of {tried}");
+}
