@@ -15,7 +15,8 @@ use Rattle.meaning.proofs.Decide.{Decides, turned, both, implied, each}
 use Rattle.meaning.proofs.Maps.{and-both}
 use Rattle.meaning.proofs.Rest.{up-below}
 use Rattle.meaning.proofs.Whole.{up-in}
-use Rattle.draw.specs.Seen.{params-at, dests-at, entries, row-fits, blocks, values, branches, args-fit, branch-fits, block-fits, drawable}
+use Rattle.layout.specs.Rows.{entries}
+use Rattle.draw.specs.Seen.{params-at, dests-at, row-fits, blocks, values, branches, args-fit, branch-fits, block-fits, drawable}
 use Rattle.draw.specs.Wrote.{Row-fits, Branch-fits, Drawable}
 
 -- ---- what is left of a list

@@ -5,7 +5,7 @@ use mathlib.Core.Path.{_≡_, refl, sym, ap, _∙_}
 use mathlib.Core.Bool.{Bool, true, false, cond, not, _||_}
 use mathlib.Core.List.{List, _++_}
 use native.Mathlib.Omega.{arith}
-use borrow.Author.Tests.{lt-ltb, le-ltb}
+use borrow.Author.Tests.{ltb-false, lt-ltb, le-ltb}
 use lib.ListN.{length, drop}
 use lib.Seq.{sets, sets-eq}
 use Rattle.entity.specs.Limits.{limits, graph-need, form-need}
@@ -29,6 +29,18 @@ module _ (graph form buffer : List ℕ) where
       ap (λ (z : Bool). by-tests z (length form <? form-need limits) (drawable graph form) (length buffer <? length drawn)) p
       ∙ ap (λ (z : Bool). by-tests g z (drawable graph form) (length buffer <? length drawn)) q
       ∙ ap (λ (z : Bool). by-tests g f z (length buffer <? length drawn)) r ∙ ap (by-tests g f d) s
+
+  -- code 0 is given only where the buffer has room
+  pub room-by-0 : code-of graph form buffer ≡ 0 → length drawn ≤ length buffer
+  room-by-0 e = by (length graph <? graph-need limits) refl (length form <? form-need limits) refl (drawable graph form) refl (length buffer <? length drawn) refl
+    where
+      by : (g : Bool) → length graph <? graph-need limits ≡ g → (f : Bool) → length form <? form-need limits ≡ f → (d : Bool) → drawable graph form ≡ d
+          → (b : Bool) → length buffer <? length drawn ≡ b → length drawn ≤ length buffer
+      by true p f q d r b s = absurd (omega (arith, sym (coded p q r s) ∙ e))
+      by false p true q d r b s = absurd (omega (arith, sym (coded p q r s) ∙ e))
+      by false p false q false r b s = absurd (omega (arith, sym (coded p q r s) ∙ e))
+      by false p false q true r true s = absurd (omega (arith, sym (coded p q r s) ∙ e))
+      by false p false q true r false s = ltb-false (length buffer) (length drawn) s
 
   pub graph-short : length graph < graph-need limits → Draws graph form buffer buffer 1 0
   graph-short h = record { code-is = sym (coded (lt-ltb _ _ h) refl refl refl); length-is = refl; buffer-is = refl }

@@ -4,3 +4,4 @@ pub mod Rows
 pub mod Codes
 pub mod Determined
 pub mod Shown
+pub mod Cases

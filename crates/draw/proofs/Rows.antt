@@ -9,9 +9,9 @@ use lib.ListN.{length, getD, take, drop, length-drop}
 use lib.Seq.{take-all, length-take-le}
 use Rattle.entity.specs.Limits.{limits, zero-room, param-room, graph-need, form-need}
 use Rattle.definition.specs.Base.{upFrom}
-use Rattle.layout.specs.Rows.{Readable}
+use Rattle.layout.specs.Rows.{Readable, entries}
 use Rattle.draw.specs.Text.{named, each, values, edge-line, edge-lines}
-use Rattle.draw.specs.Seen.{params-at, dests-at, args-at, entries, branches, seen}
+use Rattle.draw.specs.Seen.{params-at, dests-at, args-at, branches, seen}
 use Rattle.draw.specs.Wrote.{Wrote, Listed}
 use Rattle.draw.proofs.Pieces.{no-piece}
 

@@ -7,10 +7,8 @@ use mathlib.Core.Logic.{inl, inr}
 use mathlib.Core.Bool.{Bool, true, false, not, cond}
 use mathlib.Core.List.{List, [], _∷_, _++_}
 use native.Mathlib.Omega.{arith}
-use borrow.Table.Elements.{take-le}
 use lib.Arith.{digits-lt}
-use lib.ListN.{length, getD, take, drop, length-drop}
-use lib.Seq.{length-take-le, getD-take, getD-drop, ext-getD}
+use lib.ListN.{length, getD, drop}
 use Rattle.entity.specs.Limits.{limits}
 use Rattle.definition.specs.Base.{_=?_, upFrom}
 use Rattle.definition.specs.Form.{Graph, Form}
@@ -22,15 +20,15 @@ use Rattle.meaning.specs.Stored.{Stored}
 use Rattle.meaning.proofs.Lists.{getD-in}
 use Rattle.meaning.proofs.Rest.{up-below}
 use Rattle.meaning.proofs.Theorems.{rooms-suffice, numbers-named}
-use Rattle.layout.specs.Cells.{Table, sum, base, Holds}
+use Rattle.layout.specs.Cells.{Holds}
 use Rattle.layout.specs.Layout.{dest-row, param-row, graph-sizes, graph-tables, form-sizes, form-tables}
 use Rattle.layout.specs.Outcome.{Lent, first, shown}
-use Rattle.layout.specs.Rows.{Row}
-use Rattle.layout.proofs.Cells.{within, render-held}
+use Rattle.layout.specs.Rows.{Row, entries}
+use Rattle.layout.proofs.Cells.{holds-more, render-held}
 use Rattle.layout.proofs.Grids.{pair-at, row-among}
-use Rattle.layout.proofs.Rows.{row-count, row-entry}
+use Rattle.layout.proofs.Rows.{row-count, row-entries}
 use Rattle.draw.specs.Text.{Picture, each, block-line, edge-line, edge-lines, text}
-use Rattle.draw.specs.Seen.{mark-table, dest-table, param-table, arg-table, params-at, dests-at, args-at, entries, blocks, values, branches, seen, drawable, state-picture}
+use Rattle.draw.specs.Seen.{mark-table, dest-table, param-table, arg-table, params-at, dests-at, args-at, blocks, values, branches, seen, drawable, state-picture}
 use Rattle.draw.specs.Draws.{length-with, buffer-with, Draws}
 use Rattle.draw.specs.Wrote.{Long, Row-fits, Drawable}
 use Rattle.draw.proofs.Checks.{drawable-decided}
@@ -69,28 +67,13 @@ module _ (p q : Picture) (h : Same p q) where
 
 -- ---- one row
 
--- a row that holds a list is read as that list
+-- a row that holds a list, few enough and each below n, fits
 module _ (l : List ℕ) (a w : ℕ) (xs : List ℕ) (r : Row l a w xs) where
-  row-entries : entries l a ≡ xs
-  row-entries =
-      let e = row-count l a w xs r in
-      let long = length-take-le (getD l a 0) (drop (a + 1) l) (omega (arith, e, r .few, r .fits, length-drop (a + 1) l)) in
-      ext-getD 0 (entries l a) xs (long ∙ e)
-      (λ i lt.
-      getD-take (getD l a 0) (drop (a + 1) l) i 0 (omega (arith, long)) ∙ getD-drop (a + 1) l i 0 ∙ row-entry l a w xs r i (omega (arith, long, e, r .few)))
-
   row-fit : (room n : ℕ) → length xs ≤ room → ((x : ℕ) → In x xs → x < n) → Row-fits room n l a
   row-fit room n few low = record {
     few = omega (arith, row-count l a w xs r);
-    below = λ x i. low x (subst (In x) row-entries i);
+    below = λ x i. low x (subst (In x) (row-entries l a w xs r) i);
   }
-
--- cells whose first ones hold the tables hold them
-holds-whole : (sizes l : List ℕ) (M : List Table) → Holds sizes (take (sum sizes) l) M → Holds sizes l M
-holds-whole sizes l M h = record {
-  long = omega (arith, h .long, take-le (sum sizes) l);
-  at = λ t j lt. sym (getD-take (sum sizes) l (base sizes t + j) 0 (within sizes t j lt)) ∙ h .at t j lt;
-}
 
 -- a mark is set or 0
 marked : (z : Bool) → not (bit z =? 0) ≡ z
@@ -164,10 +147,10 @@ module _ (cs : List Call) (left : Lent) (k : ℕ) (e : first (needs k) left ≡ 
   picture-text = text (state-picture (session cs .graph) (session cs .form))
 
   graph-held : Holds graph-sizes (left .graph) (graph-tables (session cs .graph))
-  graph-held = holds-whole graph-sizes (left .graph) _ (render-held graph-sizes _ _ (ap (λ (t : Lent). t .graph) e))
+  graph-held = holds-more graph-sizes (left .graph) _ (render-held graph-sizes _ _ (ap (λ (t : Lent). t .graph) e))
 
   form-held : Holds form-sizes (left .form) (form-tables (session cs .form))
-  form-held = holds-whole form-sizes (left .form) _ (render-held form-sizes _ _ (ap (λ (t : Lent). t .form) e))
+  form-held = holds-more form-sizes (left .form) _ (render-held form-sizes _ _ (ap (λ (t : Lent). t .form) e))
 
   long : Long (left .graph) (left .form)
   long = record { graph-long = graph-held .long; form-long = form-held .long }

@@ -3,12 +3,13 @@
 use Prim.Native.Nat.{ℕ, _+_, _*_}
 use mathlib.Core.Bool.{Bool, not, _&&_, _||_}
 use mathlib.Core.List.{List, []}
-use lib.ListN.{getD, take, drop}
+use lib.ListN.{getD}
 use Rattle.entity.specs.Limits.{limits, value-room, param-room}
 use Rattle.definition.specs.Base.{_=?_, _<?_, _≤?_, if_then_else_, every, upFrom}
 use Rattle.definition.specs.Form.{Graph, Form}
 use Rattle.layout.specs.Cells.{base}
 use Rattle.layout.specs.Layout.{dest-row, param-row, graph-sizes, form-sizes}
+use Rattle.layout.specs.Rows.{entries}
 use Rattle.draw.specs.Text.{Picture}
 
 -- which tables are drawn: of the graph's the branch marks and the destinations, of the form's the parameters and the arguments
@@ -34,11 +35,7 @@ dests-at b = base graph-sizes dest-table + b * dest-row
 abbrev pub args-at : ℕ → ℕ → ℕ
 args-at b i = base form-sizes arg-table + (b * limits .dests + i) * param-row
 
--- the entries of the row whose count is in cell a
-abbrev pub entries : List ℕ → ℕ → List ℕ
-entries cells a = take (getD cells a 0) (drop (a + 1) cells)
-
--- they are no more than the room, and each is below n
+-- the row at a has no more entries than the room, and each is below n
 unfoldable pub row-fits : ℕ → ℕ → List ℕ → ℕ → Bool
 row-fits room n cells a = getD cells a 0 ≤? room && every (λ x. x <? n) (entries cells a)
 

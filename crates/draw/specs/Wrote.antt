@@ -8,7 +8,8 @@ use lib.ListN.{length, getD}
 use lib.Seq.{sets}
 use Rattle.entity.specs.Limits.{limits, value-room, param-room, graph-need, form-need}
 use Rattle.meaning.specs.Path.{In}
-use Rattle.draw.specs.Seen.{params-at, dests-at, args-at, entries, blocks, values, branches}
+use Rattle.layout.specs.Rows.{entries}
+use Rattle.draw.specs.Seen.{params-at, dests-at, args-at, blocks, values, branches}
 
 -- the piece was stored from place a on, byte after byte and none past the buffer's end; r is the place after it
 pub record Wrote (before : List ℕ) (a : ℕ) (piece after : List ℕ) (r : ℕ) : Type 0 where

@@ -1,6 +1,7 @@
 // What C and Rust link: the public calls under names of their own.
 ghost use mathlib.Core.Path.{_≡_};
 ghost use Rattle.definition.specs.Resolve.{Resolved};
+ghost use Rattle.draw.specs.Draws.{Draws};
 ghost use Rattle.layout.specs.Outcome.{lent};
 ghost use Rattle.session.specs.Ends.{Ended};
 ghost use Rattle.exports.specs.Told.{told};
@@ -38,6 +39,13 @@ pub struct SangvirebAnswer {
     pub number: u32,
 }
 
+// Code and length of a picture, as C sees them.
+#[repr(C)]
+pub struct SangvirebDrawn {
+    pub code: u32,
+    pub length: usize,
+}
+
 // A session over lent lists: crates/session says what it answers and leaves.
 #[no_mangle]
 pub extern "C" fn sangvireb_session(
@@ -67,6 +75,18 @@ pub extern "C" fn sangvireb_resolve(targets: &[u32], value: u32) -> SangvirebAns
     SangvirebAnswer {
         code: a.code,
         number: a.number,
+    }
+}
+
+// Draws finished tables: crates/draw says what it answers and writes.
+#[no_mangle]
+pub extern "C" fn sangvireb_draw(graph: &[u32], form: &[u32], buffer: &mut [u8]) -> SangvirebDrawn
+    ensures { λ r. ⌜ Draws (now (graph .entry)) (now (form .entry)) (now (buffer .entry)) (now (buffer .exit)) (r .code) (r .length) ⌝ }
+{
+    let d = draw::draw(graph, form, buffer);
+    SangvirebDrawn {
+        code: d.code,
+        length: d.length,
     }
 }
 

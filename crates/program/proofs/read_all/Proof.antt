@@ -3,14 +3,14 @@
 use borrow.Author.Needs.{needs}
 use mathlib.Core.Path.{_≡_}
 use lib.ListN.{length}
-use Rattle.sangvireb.proofs.read_all.Statement.{statement}
-use Rattle.sangvireb.proofs.read_all.Tie as tie
+use Rattle.program.proofs.read_all.Statement.{statement}
+use Rattle.program.proofs.read_all.Tie as tie
 
 abbrev Inv-loop : tie.InvT-loop
-Inv-loop fd name out₀ calls₀ t₀ turns₀ out calls t turns = (length out ≡ length out₀) × (length calls ≡ length calls₀)
+Inv-loop who fd name out₀ calls₀ t₀ turns₀ out calls t turns = (length out ≡ length out₀) × (length calls ≡ length calls₀)
 
 abbrev μ-loop : tie.MeasureT-loop
-μ-loop fd name out₀ calls₀ t₀ turns₀ out calls t turns = turns
+μ-loop who fd name out₀ calls₀ t₀ turns₀ out calls t turns = turns
 
 pub read-all-spec : {M : Type 1} → statement M
 read-all-spec =

@@ -4,14 +4,14 @@ use borrow.Author.Needs.{needs}
 use Prim.Native.Nat.{_-_}
 use mathlib.Core.Path.{_≡_}
 use lib.ListN.{length}
-use Rattle.sangvireb.proofs.files.Statement.{statement}
-use Rattle.sangvireb.proofs.files.Tie as tie
+use Rattle.program.proofs.files.Statement.{statement}
+use Rattle.program.proofs.files.Tie as tie
 
 abbrev Inv-loop : tie.InvT-loop
-Inv-loop out₀ calls₀ in-words k n₀ i₀ out calls n i = (length out ≡ length out₀) × (length calls ≡ length calls₀)
+Inv-loop who out₀ calls₀ shown k n₀ i₀ out calls n i = (length out ≡ length out₀) × (length calls ≡ length calls₀)
 
 abbrev μ-loop : tie.MeasureT-loop
-μ-loop out₀ calls₀ in-words k n₀ i₀ out calls n i = k - i
+μ-loop who out₀ calls₀ shown k n₀ i₀ out calls n i = k - i
 
 pub files-spec : {M : Type 1} → statement M
 files-spec =

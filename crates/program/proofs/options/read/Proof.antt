@@ -2,14 +2,14 @@
 -- Assumes nothing.
 use borrow.Author.Needs.{needs}
 use Prim.Native.Nat.{_-_}
-use Rattle.sangvireb.proofs.options.read.Statement.{statement}
-use Rattle.sangvireb.proofs.options.read.Tie as tie
+use Rattle.program.proofs.options.read.Statement.{statement}
+use Rattle.program.proofs.options.read.Tie as tie
 
 abbrev Inv-loop : tie.InvT-loop
-Inv-loop k o₀ i₀ o i = Unit {0}
+Inv-loop who shown k o₀ i₀ o i = Unit {0}
 
 abbrev μ-loop : tie.MeasureT-loop
-μ-loop k o₀ i₀ o i = k - i
+μ-loop who shown k o₀ i₀ o i = k - i
 
 pub read-spec : {M : Type 1} → statement M
 read-spec =
