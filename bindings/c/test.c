@@ -43,6 +43,14 @@ int main(void) {
     expect(codes[N - 1] == SANGVIREB_ABSENT && numbers[N - 1] == 0, "an unknown variable gets 6 and number 0");
     const uint32_t *params = form + SANGVIREB_PARAM_ROWS + 3 * SANGVIREB_PARAM_ROW;
     expect(params[0] == 1 && params[1] == 2, "block 3 has the parameter 2");
+    static const uint32_t values[][2] = {{0, 1}, {0, 2}, {1, 3}};
+    for (uint32_t v = 0; v < 3; v++) {
+        uint32_t cell = form[SANGVIREB_DESCRIBED + v];
+        expect(SANGVIREB_SORT_OF(cell) == values[v][0] && SANGVIREB_TYPE_OF(cell) == 2 && SANGVIREB_BLOCK_OF(cell) == values[v][1],
+               "two made values and a parameter, each of type 2 in its block");
+    }
+    expect(SANGVIREB_TYPE_OF(0xffffffff) == 31 && SANGVIREB_SORT_OF(0xffffffff) == 3 && SANGVIREB_BLOCK_OF(0xff7f) == 255,
+           "the parts of a cell end where the next begins");
     for (uint32_t p = 1; p <= 2; p++) {
         const uint32_t *args = form + SANGVIREB_ARG_ROWS + p * SANGVIREB_DESTS * SANGVIREB_PARAM_ROW;
         expect(args[0] == 1 && args[1] == p - 1, "each side passes its own value");

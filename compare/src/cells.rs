@@ -14,13 +14,11 @@ const GRAPH: [Part; 6] = [
     (PRED_ROWS, "predecessors", PRED_ROW, "block"),
 ];
 
-const FORM: [Part; 13] = [
+const FORM: [Part; 11] = [
     (VALUE_COUNT, "count of values", 1, ""),
     (MADE_COUNT, "count of made values", 1, ""),
     (TARGET, "alias target", 1, "value"),
-    (SORT, "sort", 1, "value"),
-    (TYPE, "type", 1, "value"),
-    (BLOCK, "block", 1, "value"),
+    (DESCRIBED, "description", 1, "value"),
     (PLACED, "blocks placed", PRED_ROW, ""),
     (ZERO_CALLS, "zero log, calls", ZERO_ROW, ""),
     (ZERO_BLOCKS, "zero log, blocks", ZERO_ROW, ""),

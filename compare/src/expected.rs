@@ -46,9 +46,8 @@ impl Expected {
                 self.numbers[call] = number as u32;
             }
             ("V", &[value, sort, kind, block, target]) => {
-                for (start, cell) in [(SORT, sort), (TYPE, kind), (BLOCK, block), (TARGET, target)] {
-                    self.form[start + value] = cell as u32;
-                }
+                self.form[TARGET + value] = target as u32;
+                self.form[DESCRIBED + value] = (kind + 32 * (sort + 4 * 2 * block)) as u32;
             }
             ("P", [block, params @ ..]) => row(&mut self.form, PARAM_ROWS + PARAM_ROW * block, params),
             ("B", &[block, dests]) => {

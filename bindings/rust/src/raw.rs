@@ -54,14 +54,10 @@ pub const VALUE_COUNT: usize = 0;
 pub const MADE_COUNT: usize = VALUE_COUNT + 1;
 /// In `form`: each value's alias target.
 pub const TARGET: usize = MADE_COUNT + 1;
-/// In `form`: each value's sort.
-pub const SORT: usize = TARGET + VALUE_ROOM;
-/// In `form`: each value's type.
-pub const TYPE: usize = SORT + VALUE_ROOM;
-/// In `form`: each value's block.
-pub const BLOCK: usize = TYPE + VALUE_ROOM;
+/// In `form`: what each value is, in one cell; [`described`] takes it apart.
+pub const DESCRIBED: usize = TARGET + VALUE_ROOM;
 /// In `form`: the row of the blocks placed.
-pub const PLACED: usize = BLOCK + VALUE_ROOM;
+pub const PLACED: usize = DESCRIBED + VALUE_ROOM;
 /// In `form`: the zero log's row of calls.
 pub const ZERO_CALLS: usize = PLACED + PRED_ROW;
 /// In `form`: the zero log's row of blocks.
@@ -79,6 +75,11 @@ pub const FORM_NEED: usize = ARG_ROWS + BLOCKS * DESTS * PARAM_ROW;
 
 /// Cells that `work` needs: two for each scheduled call, one for each result.
 pub const WORK_NEED: usize = 2 * BLOCKS * (1 + DESTS) + BLOCKS * DESTS + 1;
+
+/// The parts of a cell of [`DESCRIBED`]: the numbers of the value's type, sort and block.
+pub const fn described(cell: u32) -> (u32, u32, u32) {
+    (cell % 32, cell / 32 % 4, cell / 256)
+}
 
 /// The session was run.
 pub const RUN: u32 = 0;

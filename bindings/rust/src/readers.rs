@@ -162,13 +162,13 @@ impl Session {
     }
 
     fn data(&self, place: usize) -> ValueData {
-        let cell = |table: usize| self.form[table + place];
+        let (ty, sort, block) = raw::described(self.form[raw::DESCRIBED + place]);
         ValueData {
             value: Value(place as u32),
-            sort: Sort::from_number(cell(raw::SORT)).expect("proved: the tables show a sort as 0, 1 or 2"),
-            ty: stored_type(cell(raw::TYPE)),
-            block: Block(cell(raw::BLOCK)),
-            target: Value(cell(raw::TARGET)),
+            sort: Sort::from_number(sort).expect("proved: the tables show a sort as 0, 1 or 2"),
+            ty: stored_type(ty),
+            block: Block(block),
+            target: Value(self.form[raw::TARGET + place]),
         }
     }
 

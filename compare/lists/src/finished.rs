@@ -57,12 +57,18 @@ impl<'a> Finished<'a> {
     }
 
     pub fn is_zero_of(&self, value: u32, block: u32) -> bool {
-        self.form[SORT + value as usize] == 2 && self.form[BLOCK + value as usize] == block
+        let (_, sort, home) = self.described(value);
+        sort == 2 && home == block
     }
 
     /// 0 made, 1 parameter, 2 zero.
     pub fn sort(&self, value: u32) -> u32 {
-        self.form[SORT + value as usize]
+        self.described(value).1
+    }
+
+    /// Its type, sort and block.
+    fn described(&self, value: u32) -> (u32, u32, u32) {
+        raw::described(self.form[DESCRIBED + value as usize])
     }
 
     /// Aliases as they stand at the list's end. Every value of a session has an end.

@@ -5,8 +5,7 @@ use mathlib.Core.List.{List, []}
 use Rattle.definition.specs.Form.{Graph, Form}
 use Rattle.definition.specs.Session.{State, Reply as Defined}
 use Rattle.layout.specs.declared.Counts.{Counts}
-use Rattle.layout.specs.Cells.{Holds}
-use Rattle.layout.specs.Layout.{work-sizes, work-tables}
+use Rattle.layout.specs.Layout.{Piles}
 use Rattle.reply.specs.declared.Reply.{Reply}
 use Rattle.reply.specs.Replies.{Showing, Replies}
 
@@ -14,15 +13,15 @@ use Rattle.reply.specs.Replies.{Showing, Replies}
 abbrev pub State-with : (State → Type 0) → Type 0
 State-with P = (t : State) × P t
 
--- The cells and the counts show a state between two calls; no cell of the stacks is in use.
+-- The cells and the counts show a state between two calls; both stacks are empty, whatever their cells hold.
 pub record Between (gl fl wl : List ℕ) (c : Counts) (t : State) : Type 0 where
   pub showing : Showing gl fl c t
-  pub idle : Holds work-sizes wl (work-tables [] [])
+  pub idle : Piles wl [] []
 
 -- r answers the definition's reply d, and the cells show what d leaves
 pub record Replied (gl fl wl : List ℕ) (r : Reply) (g : Graph) (s : Form) (d : Defined) : Type 0 where
   pub replies : Replies gl fl r g s d
-  pub idle : Holds work-sizes wl (work-tables [] [])
+  pub idle : Piles wl [] []
 
 -- for each state that the cells show, r answers the reply f
 abbrev pub Answers : List ℕ → List ℕ → List ℕ → List ℕ → List ℕ → List ℕ → Counts → Reply → (Graph → Form → Defined) → Type 0

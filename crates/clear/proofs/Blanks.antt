@@ -9,7 +9,7 @@ use native.Mathlib.Omega.{arith}
 use lib.ListN.{length, getD, set, drop, replicate, length-replicate, getD-replicate}
 use Rattle.definition.specs.Session.{empty}
 use Rattle.layout.specs.Cells.{sum, Table, Holds, render}
-use Rattle.layout.specs.Layout.{graph-sizes, form-sizes, work-sizes, render-graph, render-form, render-work, graph-tables, form-tables, work-tables}
+use Rattle.layout.specs.Layout.{graph-sizes, form-sizes, work-sizes, render-graph, render-form, render-work, graph-tables, form-tables}
 use Rattle.layout.proofs.Cells.{holds-render}
 use Rattle.layout.proofs.Zeros.{zeros-graph, zeros-form, zeros-work}
 use Rattle.clear.specs.Cleared.{blanked}
@@ -53,5 +53,5 @@ graph-blanked = blanked-render graph-sizes (graph-tables (empty .graph)) zeros-g
 pub form-blanked : (l : List ℕ) → blanked (sum form-sizes) l ≡ render-form (empty .form) ++ drop (sum form-sizes) l
 form-blanked = blanked-render form-sizes (form-tables (empty .form)) zeros-form
 
-pub work-blanked : (l : List ℕ) → blanked (sum work-sizes) l ≡ render-work [] [] ++ drop (sum work-sizes) l
-work-blanked = blanked-render work-sizes (work-tables [] []) zeros-work
+pub work-blanked : (l : List ℕ) → blanked (sum work-sizes) l ≡ render-work ++ drop (sum work-sizes) l
+work-blanked = blanked-render work-sizes [] zeros-work

@@ -1,8 +1,10 @@
-// Clearing: a session starts empty, whatever the lent cells held.
-ghost use mathlib.Core.List.{[]};
+// Clearing: a session starts empty, whatever the lent cells held, and leaves its stacks empty.
+ghost use mathlib.Core.List.{_++_};
 ghost use mathlib.Core.Path.{_≡_};
 ghost use Prim.Native.Nat.{_≤_};
-ghost use lib.ListN.{length};
+ghost use lib.ListN.{length, drop};
+ghost use Rattle.entity.specs.Limits.{limits, work-need};
+ghost use Rattle.layout.specs.Layout.{render-work};
 ghost use Rattle.clear.specs.Cleared.{blanked, Long, Cleared};
 
 // The first n cells become 0. The others are left alone.
@@ -17,12 +19,19 @@ fn blank(t: &mut [u32], n: usize)
     }
 }
 
-// The needed cells of the three lists show the empty session; the cells past the need keep what they held.
-pub fn clear(graph: &mut [u32], form: &mut [u32], work: &mut [u32])
-    requires { ⌜ Long (now graph) (now form) (now work) ⌝ }
-    ensures { λ r. ⌜ Cleared (now (graph .entry)) (now (form .entry)) (now (work .entry)) (now (graph .exit)) (now (form .exit)) (now (work .exit)) ⌝ }
+// The needed cells of the graph and the form show the empty session; the cells past the need keep what they held.
+pub fn clear(graph: &mut [u32], form: &mut [u32])
+    requires { ⌜ Long (now graph) (now form) ⌝ }
+    ensures { λ r. ⌜ Cleared (now (graph .entry)) (now (form .entry)) (now (graph .exit)) (now (form .exit)) ⌝ }
 {
     blank(graph, entity::GRAPH_NEED);
     blank(form, entity::FORM_NEED);
+}
+
+// The needed cells of the stacks become 0. What lookups left in them is cleared once, at the end: a pop leaves its cells as they are.
+pub fn clear_work(work: &mut [u32])
+    requires { ⌜ work-need limits ≤ length (now work) ⌝ }
+    ensures { λ r. ⌜ now (work .exit) ≡ render-work ++ drop (work-need limits) (now (work .entry)) ⌝ }
+{
     blank(work, entity::WORK_NEED);
 }

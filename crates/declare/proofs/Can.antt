@@ -10,6 +10,7 @@ use lib.ListN.{length}
 use native.Mathlib.Omega.{arith}
 use native.Mathlib.Nat.{le-trans}
 use Rattle.entity.specs.Limits.{limits, value-room}
+use Rattle.entity.specs.Types.{type-count}
 use Rattle.definition.specs.Base.{has}
 use Rattle.definition.specs.Form.{Form, with-makes}
 use Rattle.definition.specs.Read.{place-block}
@@ -32,6 +33,9 @@ module _ {gl fl : List ℕ} {c : Counts} {t : State} (h : Showing gl fl c t) whe
 
   pub has-value : (x : ℕ) → x < t .form .next → Has-value fl x (t .form)
   has-value x l = record { cells = cells h; there = l; room = rooms .values }
+
+  pub value-typed : (x : ℕ) → x < t .form .next → t .form .info x .type < type-count
+  value-typed = h .sure .safe .ranged .valued .types
 
   pub value-small : (x : ℕ) → x < t .form .next → x < value-room limits
   value-small x l = le-trans l (rooms .values)

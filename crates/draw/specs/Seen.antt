@@ -20,10 +20,10 @@ abbrev pub dest-table : ℕ
 dest-table = 4
 
 abbrev pub param-table : ℕ
-param-table = 9
+param-table = 7
 
 abbrev pub arg-table : ℕ
-arg-table = 12
+arg-table = 10
 
 -- the cells of the counts of block b's parameters, of its branch's destinations, and of its branch's arguments at destination i
 abbrev pub params-at : ℕ → ℕ

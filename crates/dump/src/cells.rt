@@ -1,6 +1,7 @@
-// Every read of a lent cell that printing makes. Each goes through `cell`, which answers 0 past the end, so that no count and no offset can lead astray.
+// Every read of a lent cell that printing makes. Each goes through `raw`, which answers 0 past the end, so that no count and no offset can lead astray.
 use crate::say::Numbers;
 use crate::say::three;
+use entity::Described;
 
 const BLOCKS: usize = entity::BLOCKS as usize;
 
@@ -14,14 +15,18 @@ fn wide(x: u32) -> usize {
     x as usize
 }
 
-pub fn cell(t: &[u32], start: usize, i: usize) -> usize {
+fn raw(t: &[u32], start: usize, i: usize) -> u32 {
     if t.len() <= start {
         return 0;
     }
     if t.len() - start <= i {
         return 0;
     }
-    wide(t[start + i])
+    t[start + i]
+}
+
+pub fn cell(t: &[u32], start: usize, i: usize) -> usize {
+    wide(raw(t, start, i))
 }
 
 // Entry i of the row that starts at `at`, after its count.
@@ -124,11 +129,12 @@ pub fn call(calls: &[u32], numbers: &[u32], i: usize) -> Numbers {
 
 // Sort, type, block and target of value i.
 pub fn value(form: &[u32], i: usize) -> Numbers {
+    let d = Described::from_cell(raw(form, layout::DESCRIBED, i));
     Numbers {
         a: i,
-        b: cell(form, layout::SORT, i),
-        c: cell(form, layout::TYPE, i),
-        d: cell(form, layout::BLOCK, i),
+        b: wide(d.sort),
+        c: wide(d.ty),
+        d: wide(d.block.0),
         e: cell(form, layout::TARGET, i),
     }
 }

@@ -1,4 +1,5 @@
 pub mod Limits
 pub mod Types
 pub mod Options
+pub mod Described
 pub mod Host

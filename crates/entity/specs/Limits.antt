@@ -47,11 +47,11 @@ module _ (l : Limits) where
       1 + row-cells (l .variables) + l .blocks + l .blocks
       + l .blocks * row-cells (l .dests) + l .blocks * row-cells pred-room
 
-  -- the form's cells: counts of values and of made ones; target, sort, type and block of each value; blocks placed; the zeros' calls and blocks;
+  -- the form's cells: counts of values and of made ones; target and description of each value; blocks placed; the zeros' calls and blocks;
   -- parameters; pending variables; last definitions; arguments
   abbrev pub form-need : ℕ
   form-need =
-      2 + 4 * value-room + row-cells pred-room + 2 * row-cells zero-room
+      2 + 2 * value-room + row-cells pred-room + 2 * row-cells zero-room
       + l .blocks * row-cells param-room + l .blocks * row-cells param-room
       + l .variables * l .blocks + l .blocks * (l .dests * row-cells param-room)
 

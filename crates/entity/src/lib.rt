@@ -1,6 +1,7 @@
-// The numbers that stand for blocks, variables, values and branches; the types; the limits, and the rooms that follow from them.
+// The numbers that stand for blocks, variables, values and branches; the types; what a value is, in one cell; the limits, and the rooms that follow from them.
 ghost use mathlib.Core.Path.{_≡_};
 ghost use lib.Dec.{ltb};
+ghost use Rattle.entity.specs.Described.{Fits, Parts, packed};
 ghost use Rattle.entity.specs.Host.{In-force, Needed};
 ghost use Rattle.entity.specs.Types.{number-of, type-count, type-with, width-of, zero-of};
 
@@ -106,6 +107,43 @@ impl Type {
     }
 }
 
+// What a value is: its cell holds the type in the lowest five bits, since the type is read most, then the sort in two and a bit that is kept for a
+// mark. The block stands on top, so that no limit on blocks moves the others.
+pub struct Described {
+    pub ty: u32,
+    pub sort: u32,
+    pub block: Block,
+}
+
+impl Described {
+    // How many types, sorts and marks a cell can tell apart.
+    pub const TYPES: u32 = 32;
+
+    pub const SORTS: u32 = 4;
+
+    pub const MARKS: u32 = 2;
+
+    // The cell, with no mark.
+    pub fn cell(self) -> u32
+        requires { ⌜ Fits (self .ty) (self .sort) (self .block .0) ⌝ }
+        ensures { λ r. ⌜ r ≡ packed (self .ty) (self .sort) 0 (self .block .0) ⌝ }
+    {
+        (self.block.0 * Described::MARKS * Described::SORTS + self.sort) * Described::TYPES
+            + self.ty
+    }
+
+    // What any cell says, whether it is marked or not.
+    pub fn from_cell(cell: u32) -> Described
+        ensures { λ r. ⌜ Parts cell r ⌝ }
+    {
+        Described {
+            ty: cell % Described::TYPES,
+            sort: cell / Described::TYPES % Described::SORTS,
+            block: Block(cell / Described::TYPES / Described::SORTS / Described::MARKS),
+        }
+    }
+}
+
 // The limits: to raise one, edit its number here and in specs/Limits.antt.
 pub const BLOCKS: u32 = 64;
 
@@ -150,7 +188,7 @@ pub const GRAPH_NEED: usize = 1
     + BLOCKS as usize * PRED_ROW;
 
 pub const FORM_NEED: usize = 2
-    + 4 * VALUE_ROOM
+    + 2 * VALUE_ROOM
     + PRED_ROW
     + 2 * ZERO_ROW
     + BLOCKS as usize * PARAM_ROW

@@ -26,15 +26,15 @@ use Rattle.form.specs.Can.{Cells, Can-append, Has-params, Next-param, Ca
 -- ---- a parameter more
 
 module _ (l : List ℕ) (c : Counts) (b ty : ℕ) (s : Form) (l₁ : List ℕ) (p : Can-append l c b s) (h : Shows l₁ (more c) (make param ty b s)) where
-  pub param-room : Pushable l₁ (base form-sizes 9 + b * param-row)
-  param-room = rows-can-push form-sizes l₁ (form-tables (make param ty b s)) 9 (h .cells) param-row (s .params) b refl (omega (arith, p .known)) (omega (arith, p .row)) (omega (arith, p .row))
+  pub param-room : Pushable l₁ (base form-sizes 7 + b * param-row)
+  param-room = rows-can-push form-sizes l₁ (form-tables (make param ty b s)) 7 (h .cells) param-row (s .params) b refl (omega (arith, p .known)) (omega (arith, p .row)) (omega (arith, p .row))
 
-  pub param-appended : (l₂ : List ℕ) → l₂ ≡ pushed l₁ (base form-sizes 9 + b * param-row) (c .values) → Shows l₂ (more c) (set-params b (s .params b ∷ʳ s .next) (make param ty b s))
+  pub param-appended : (l₂ : List ℕ) → l₂ ≡ pushed l₁ (base form-sizes 7 + b * param-row) (c .values) → Shows l₂ (more c) (set-params b (s .params b ∷ʳ s .next) (make param ty b s))
   param-appended l₂ e =
       let xs = s .params b ∷ʳ s .next in
       record {
         cells = rw (e, p .make .shows .next)
-            (rows-more form-sizes l₁ (form-tables (make param ty b s)) 9 (h .cells) param-row (s .params) b refl (omega (arith, p .known)) (omega (arith, p .row)) (s .next) (put b xs (s .params)) (omega arith)
+            (rows-more form-sizes l₁ (form-tables (make param ty b s)) 7 (h .cells) param-row (s .params) b refl (omega (arith, p .known)) (omega (arith, p .row)) (s .next) (put b xs (s .params)) (omega arith)
             (put-same b xs (s .params)) (λ d n. put-other b xs (s .params) d n));
         next = h .next;
       }
@@ -42,35 +42,35 @@ module _ (l : List ℕ) (c : Counts) (b ty : ℕ) (s : Form) (l₁ : List ℕ) (
 -- ---- a parameter less, and one read
 
 module _ (l : List ℕ) (b : ℕ) (s : Form) (p : Has-params l b s) where
-  the-row : Row l (base form-sizes 9 + b * param-row) param-row (s .params b)
-  the-row = row-among form-sizes l (form-tables s) 9 (p .cells) param-row (s .params) b refl (omega (arith, p .known)) (omega (arith, p .few))
+  the-row : Row l (base form-sizes 7 + b * param-row) param-row (s .params b)
+  the-row = row-among form-sizes l (form-tables s) 7 (p .cells) param-row (s .params) b refl (omega (arith, p .known)) (omega (arith, p .few))
 
-  pub params-readable : Readable l (base form-sizes 9 + b * param-row)
-  params-readable = row-readable l (base form-sizes 9 + b * param-row) param-row (s .params b) the-row (omega (arith, p .few))
+  pub params-readable : Readable l (base form-sizes 7 + b * param-row)
+  params-readable = row-readable l (base form-sizes 7 + b * param-row) param-row (s .params b) the-row (omega (arith, p .few))
 
-  pub param-removed : (x : ℕ) (l₁ : List ℕ) → l₁ ≡ sift (base form-sizes 9 + b * param-row) x (getD l (base form-sizes 9 + b * param-row) 0) 0 0 l
+  pub param-removed : (x : ℕ) (l₁ : List ℕ) → l₁ ≡ sift (base form-sizes 7 + b * param-row) x (getD l (base form-sizes 7 + b * param-row) 0) 0 0 l
       → Cells l₁ (set-params b (without x (s .params b)) s)
   param-removed x l₁ e =
       let xs = without x (s .params b) in
       rw e
-      (rows-changed form-sizes l (form-tables s) 9 (p .cells) param-row (s .params) b refl (omega (arith, p .known)) (sift (base form-sizes 9 + b * param-row) x (getD l (base form-sizes 9 + b * param-row) 0) 0 0 l)
-      (put b xs (s .params)) (omega arith) (omega arith) (rw put-same (row-sifted l (base form-sizes 9 + b * param-row) param-row (s .params b) the-row x)) (λ d n. put-other b xs (s .params) d n))
+      (rows-changed form-sizes l (form-tables s) 7 (p .cells) param-row (s .params) b refl (omega (arith, p .known)) (sift (base form-sizes 7 + b * param-row) x (getD l (base form-sizes 7 + b * param-row) 0) 0 0 l)
+      (put b xs (s .params)) (omega arith) (omega arith) (rw put-same (row-sifted l (base form-sizes 7 + b * param-row) param-row (s .params b) the-row x)) (λ d n. put-other b xs (s .params) d n))
 
 module _ (l : List ℕ) (b n x : ℕ) (s : Form) (p : Next-param l b n x s) where
-  count-is : getD l (base form-sizes 9 + b * param-row) 0 ≡ length (p .before) + n
-  count-is = row-count l (base form-sizes 9 + b * param-row) param-row (s .params b) (the-row l b s (p .params)) ∙ ap length (p .split) ∙ length-append (p .before) (x ∷ p .after) ∙ omega (arith, p .count)
+  count-is : getD l (base form-sizes 7 + b * param-row) 0 ≡ length (p .before) + n
+  count-is = row-count l (base form-sizes 7 + b * param-row) param-row (s .params b) (the-row l b s (p .params)) ∙ ap length (p .split) ∙ length-append (p .before) (x ∷ p .after) ∙ omega (arith, p .count)
 
-  pub next-inside : (n ≤ getD l (base form-sizes 9 + b * param-row) 0) × (0 < n) × (getD l (base form-sizes 9 + b * param-row) 0 < param-row)
-      × (b < limits .blocks) × (base form-sizes 10 ≤ length l)
+  pub next-inside : (n ≤ getD l (base form-sizes 7 + b * param-row) 0) × (0 < n) × (getD l (base form-sizes 7 + b * param-row) 0 < param-row)
+      × (b < limits .blocks) × (base form-sizes 8 ≤ length l)
   next-inside =
       let few = p .params .few in
       (omega (arith, count-is), omega (arith, p .count), omega (arith, ap length (p .split), length-append (p .before) (x ∷ p .after), count-is, p .count, few), p .params .known, omega (arith, p .params .cells .long))
 
-  pub next-is : getD l (base form-sizes 9 + b * param-row + 1 + (getD l (base form-sizes 9 + b * param-row) 0 - n)) 0 ≡ x
+  pub next-is : getD l (base form-sizes 7 + b * param-row + 1 + (getD l (base form-sizes 7 + b * param-row) 0 - n)) 0 ≡ x
   next-is =
-      let k : getD l (base form-sizes 9 + b * param-row) 0 - n ≡ length (p .before) = omega (arith, count-is) in
+      let k : getD l (base form-sizes 7 + b * param-row) 0 - n ≡ length (p .before) = omega (arith, count-is) in
       rw k
-      (row-entry l (base form-sizes 9 + b * param-row) param-row (s .params b) (the-row l b s (p .params)) (length (p .before)) (omega (arith, next-inside, count-is))
+      (row-entry l (base form-sizes 7 + b * param-row) param-row (s .params b) (the-row l b s (p .params)) (length (p .before)) (omega (arith, next-inside, count-is))
       ∙ ap (λ (xs : List ℕ). getD xs (length (p .before)) 0) (p .split) ∙ getD-append-seam (p .before) x (p .after) 0)
 
 -- ---- an argument more
@@ -85,14 +85,14 @@ module _ (l : List ℕ) (p i : ℕ) (s : Form) (h : Can-feed l p i s) where
   room : length (args (p * limits .dests + i)) + 1 < param-row
   room = omega (arith, ap length own, h .row)
 
-  pub argument-room : Pushable l (base form-sizes 12 + (p * limits .dests + i) * param-row)
-  argument-room = rows-can-push form-sizes l (form-tables s) 12 (h .cells) param-row args (p * limits .dests + i) refl (omega (arith, h .branch, h .place)) room (omega (arith, room))
+  pub argument-room : Pushable l (base form-sizes 10 + (p * limits .dests + i) * param-row)
+  argument-room = rows-can-push form-sizes l (form-tables s) 10 (h .cells) param-row args (p * limits .dests + i) refl (omega (arith, h .branch, h .place)) room (omega (arith, room))
 
-  pub argument-appended : (x : ℕ) (l₁ : List ℕ) → l₁ ≡ pushed l (base form-sizes 12 + (p * limits .dests + i) * param-row) x → Cells l₁ (with-args s (put₂ p i (s .args p i ∷ʳ x) (s .args)))
+  pub argument-appended : (x : ℕ) (l₁ : List ℕ) → l₁ ≡ pushed l (base form-sizes 10 + (p * limits .dests + i) * param-row) x → Cells l₁ (with-args s (put₂ p i (s .args p i ∷ʳ x) (s .args)))
   argument-appended x l₁ e =
       let xs = s .args p i ∷ʳ x in
       rw e
-      (rows-more form-sizes l (form-tables s) 12 (h .cells) param-row args (p * limits .dests + i) refl (omega (arith, h .branch, h .place)) room x
+      (rows-more form-sizes l (form-tables s) 10 (h .cells) param-row args (p * limits .dests + i) refl (omega (arith, h .branch, h .place)) room x
       (λ r. put₂ p i xs (s .args) (r / limits .dests) (r % limits .dests)) (omega arith)
       (pair-at (limits .dests) (put₂ p i xs (s .args)) p i (h .place) ∙ put₂-at p i xs (s .args) p i refl refl ∙ ap (λ (ys : List ℕ). ys ∷ʳ x) (sym own))
       (λ r n. put₂-other p i xs (s .args) (r / limits .dests) (r % limits .dests) (other-cell (limits .dests) p i r (h .place) n)))

@@ -2,8 +2,10 @@
 ghost use mathlib.Core.Path.{_≡_};
 ghost use Prim.Native.Nat.{ℕ, suc, _<_, _≤_};
 ghost use lib.ListN.{length};
+ghost use Rattle.entity.specs.Described.{Fits, type-room};
 ghost use Rattle.entity.specs.Limits.{limits, value-room, param-room};
 ghost use Rattle.entity.specs.Options.{value-of};
+ghost use Rattle.entity.specs.Types.{type-count};
 ghost use Rattle.definition.specs.Base.{put, put₂, _∷ʳ_, has, without};
 ghost use Rattle.definition.specs.Form.{Form, Sort, param, def, with-makes, with-target, with-args};
 ghost use Rattle.definition.specs.Read.{make as made-of, set-params, wait, log-zero, place-block};
@@ -15,20 +17,19 @@ ghost use Rattle.form.specs.Can.{Has-def, Recorded, Can-wait, Has-pendin
 use entity::Block;
 use entity::Branch;
 use entity::OptionValue;
+use entity::Described;
 use entity::PARAM_ROW;
 use entity::Value;
 use entity::Variable;
 use layout::ARGS;
-use layout::BLOCK;
 use layout::Counts;
 use layout::DEFS;
+use layout::DESCRIBED;
 use layout::MADE_COUNT;
 use layout::PARAMS;
 use layout::PENDING;
 use layout::PLACED;
-use layout::SORT;
 use layout::TARGET;
-use layout::TYPE;
 use layout::VALUE_COUNT;
 use layout::ZERO_BLOCKS;
 use layout::ZERO_CALLS;
@@ -43,14 +44,14 @@ pub const ZERO: u32 = 2;
 // The next value. It is its own alias target until it becomes another name.
 pub fn make(form: &mut [u32], c: Counts, sort: u32, ty: u32, block: Block) -> Counts
     requires { ⌜ Ex (Can-make (now form) c) ⌝ }
+    requires { ⌜ Fits ty sort (block .0) ⌝ }
     ensures { λ r. ⌜ (r ≡ more c) × ((s : Form) → Can-make (now (form .entry)) c s → (k : Sort) → sort ≡ sort-number k
         → Shows (now (form .exit)) (more c) (made-of k ty (block .0) s)) ⌝ }
 {
     let n = c.values;
     let i = n as usize;
-    form[SORT + i] = sort;
-    form[TYPE + i] = ty;
-    form[BLOCK + i] = block.0;
+    let d = Described { ty, sort, block };
+    form[DESCRIBED + i] = d.cell();
     form[TARGET + i] = n;
     form[VALUE_COUNT] = n + 1;
     c.allot()
@@ -75,10 +76,12 @@ pub fn made_count(form: &[u32]) -> u32
 // A zero has the type of the parameter that it stands for, and a variable takes only values of its own.
 pub fn value_type(form: &[u32], val: Value) -> u32
     requires { ⌜ Ex (Has-value (now form) (val .0)) ⌝ }
-    ensures { λ r. ⌜ ((s : Form) → Has-value (now (form .entry)) (val .0) s → r ≡ s .info (val .0) .type) ⌝ }
+    ensures { λ r. ⌜ (r < type-room) × ((s : Form) → Has-value (now (form .entry)) (val .0) s → s .info (val .0) .type < type-count
+        → r ≡ s .info (val .0) .type) ⌝ }
 {
     let i = val.0 as usize;
-    form[TYPE + i]
+    let d = Described::from_cell(form[DESCRIBED + i]);
+    d.ty
 }
 
 // How many zeros the log has: a call answers how many it added.
@@ -92,6 +95,7 @@ pub fn zero_count(form: &[u32]) -> u32
 // The next value, as the block's last parameter.
 pub fn append_block_param(form: &mut [u32], c: Counts, block: Block, ty: u32) -> Counts
     requires { ⌜ Ex (Can-append (now form) c (block .0)) ⌝ }
+    requires { ⌜ ty < type-room ⌝ }
     ensures { λ r. ⌜ (r ≡ more c) × ((s : Form) → Can-append (now (form .entry)) c (block .0) s
         → Shows (now (form .exit)) (more c) (set-params (block .0) (s .params (block .0) ∷ʳ s .next) (made-of param ty (block .0) s))) ⌝ }
 {

@@ -9,17 +9,16 @@ use lib.Seq.{getD-append-add}
 use Rattle.entity.specs.Limits.{limits, result-room}
 use Rattle.meaning.specs.Machine.{Task}
 use Rattle.layout.specs.declared.Counts.{Counts}
-use Rattle.layout.specs.Cells.{base, pile}
+use Rattle.layout.specs.Cells.{base}
 use Rattle.layout.specs.Layout.{work-sizes, Stacks}
-use Rattle.layout.proofs.Stacks.{pile-reverse}
 
-pile-lasts : (n : ℕ) (xs : List ℕ) (i : ℕ) → pile xs (length xs - n + i) ≡ getD (reverse (take n xs)) i 0
-pile-lasts n xs i =
+reverse-lasts : (n : ℕ) (xs : List ℕ) (i : ℕ) → getD (reverse xs) (length xs - n + i) 0 ≡ getD (reverse (take n xs)) i 0
+reverse-lasts n xs i =
     let e : reverse xs ≡ reverse (drop n xs) ++ reverse (take n xs) = ap reverse (sym (take-append-drop n xs)) ∙ reverse-append (take n xs) (drop n xs) in
     let f : length xs - n ≡ length (reverse (drop n xs)) = sym (length-reverse (drop n xs) ∙ length-drop n xs) in
-    pile-reverse xs (length xs - n + i) ∙ rw (e, f) (getD-append-add (reverse (drop n xs)) (reverse (take n xs)) i 0)
+    rw (e, f) (getD-append-add (reverse (drop n xs)) (reverse (take n xs)) i 0)
 
 -- the i-th of the last n results
 pub last-result : (l : List ℕ) (c : Counts) (ts : List Task) (rs : List ℕ) → Stacks l c ts rs → length rs ≤ result-room limits → (n i : ℕ) → n ≤ length rs → i < n
     → getD l (base work-sizes 2 + (c .results - n + i)) 0 ≡ getD (reverse (take n rs)) i 0
-last-result l c ts rs s high n i le lt = rw (s .results) (s .cells .at 2 (length rs - n + i) (omega arith) ∙ pile-lasts n rs i)
+last-result l c ts rs s high n i le lt = rw (s .results) (s .cells .held (length rs - n + i) (omega arith) (omega arith) ∙ reverse-lasts n rs i)

@@ -15,7 +15,7 @@ use Rattle.definition.specs.Session.{Done, State, session}
 use Rattle.definition.specs.Whole.{calls, Lengths, needs, short, unfit, whole-answer}
 use Rattle.meaning.proofs.Maps.{bool?, eqb-eq, eqb-diff, ltb-no, or-no, and-both, not-no}
 use Rattle.meaning.proofs.Steady.{calls-count}
-use Rattle.layout.specs.Layout.{graph-sizes, graph-tables, form-sizes, form-tables, work-sizes, work-tables}
+use Rattle.layout.specs.Layout.{graph-sizes, graph-tables, form-sizes, form-tables, work-sizes}
 use Rattle.layout.specs.Outcome.{Lent, lengths, outcome, shown, first, past, followed-by}
 use Rattle.layout.proofs.Cells.{render-length}
 
@@ -124,7 +124,7 @@ shown-lengths s =
       length-map (s .done) (λ (d : Done). d .number),
       render-length graph-sizes (graph-tables (s .graph)),
       render-length form-sizes (form-tables (s .form)),
-      render-length work-sizes (work-tables [] []),
+      render-length work-sizes [],
     )
 
 module _ (ks xs ys zs : List ℕ) where

@@ -1,5 +1,5 @@
--- Renders that are the same come from states with the same tables: each cell says the same, and a row's cells fix its list, since no list is
--- longer than its room.
+-- Renders that are the same come from states with the same tables: each cell says the same, a value's cell fixes what it is, since its type is one, and
+-- a row's cells fix its list, since no list is longer than its room.
 -- Assumes nothing.
 use Prim.Native.Nat.{ℕ, suc, _+_, _*_, _/_, _%_, _<_}
 use mathlib.Core.Path.{_≡_, refl, sym, ap, _∙_}
@@ -11,13 +11,18 @@ use lib.Arith.{digits-lt}
 use lib.ListN.{length, getD, length-map}
 use lib.Seq.{ext-getD}
 use Rattle.entity.specs.Limits.{limits, value-room, row-cells}
+use Rattle.entity.specs.Types.{type-count}
+use Rattle.entity.specs.Described.{type-room, sort-room}
+use Rattle.entity.proofs.Packing.{packed-type, packed-sort, packed-block}
 use Rattle.definition.specs.Form.{Graph, Form, Info, Sort, made, param, nought, def}
 use Rattle.definition.specs.Session.{Call, session, bit}
 use Rattle.meaning.specs.Rooms.{Rooms}
+use Rattle.meaning.specs.Stored.{Stored}
 use Rattle.meaning.proofs.Rooms.{rooms}
+use Rattle.meaning.proofs.Stored.{stored}
 use Rattle.layout.specs.Cells.{Table, blank, cell, rows, upto}
 use Rattle.definition.specs.Tables.{sort-number, plus-one}
-use Rattle.layout.specs.Layout.{firsts, seconds, dest-row, pred-row, zero-row, param-row, graph-sizes, graph-tables, form-sizes, form-tables, render-graph, render-form}
+use Rattle.layout.specs.Layout.{described, firsts, seconds, dest-row, pred-row, zero-row, param-row, graph-sizes, graph-tables, form-sizes, form-tables, render-graph, render-form}
 use Rattle.layout.specs.Same.{Same-graph, Same-form}
 use Rattle.layout.proofs.Cells.{render-same}
 use Rattle.layout.proofs.Grids.{pair-at, grid-at}
@@ -59,10 +64,26 @@ pairs-same (x ∷ xs) (y ∷ ys) e f =
     let p : x ≡ y = ap {B = ℕ × ℕ} (λ (k : ℕ). (k, x .1)) a ∙ ap {B = ℕ × ℕ} (λ (k : ℕ). (y .0, k)) b in
     rw (r, p)
 
+sort-small : (k : Sort) → sort-number k < sort-room
+sort-small made = omega arith
+sort-small param = omega arith
+sort-small nought = omega arith
+
 info-same : (a b : Info) → a .sort ≡ b .sort → a .type ≡ b .type → a .home ≡ b .home → a ≡ b
 info-same a b e f h =
     ap (λ (k : Sort). record { sort = k; type = a .type; home = a .home }) e ∙ ap (λ (k : ℕ). record { sort = b .sort; type = k; home = a .home }) f
     ∙ ap (λ (k : ℕ). record { sort = b .sort; type = b .type; home = k }) h
+
+described-same : (a b : Info) → a .type < type-count → b .type < type-count → described a ≡ described b → a ≡ b
+described-same a b la lb e =
+    let m = sort-number (a .sort) in
+    let n = sort-number (b .sort) in
+    let t : a .type < type-room = omega arith in
+    let u : b .type < type-room = omega arith in
+    info-same a b
+    (sort-same (a .sort) (b .sort) (packed-sort (a .type) m 0 (a .home) (b .type) n 0 (b .home) t u e (sort-small (a .sort)) (sort-small (b .sort))))
+    (packed-type (a .type) m 0 (a .home) (b .type) n 0 (b .home) t u e)
+    (packed-block (a .type) m 0 (a .home) (b .type) n 0 (b .home) t u e (sort-small (a .sort)) (sort-small (b .sort)) (omega arith) (omega arith))
 
 abbrev first : ℕ × ℕ → ℕ
 first w = w .0
@@ -99,28 +120,27 @@ module _ (g g′ : Graph) (s s′ : Form) (R : Rooms g s) (R′ : Rooms g′ s�
         preds = λ b lt. rows-same (limits .blocks) pred-row (g .preds) (g′ .preds) b lt (omega (arith, R .preds b)) (omega (arith, R′ .preds b)) (at 5);
       }
 
-  pub same-form : render-form s ≡ render-form s′ → Same-form s s′
-  same-form e =
+  pub same-form : Stored g s → Stored g′ s′ → render-form s ≡ render-form s′ → Same-form s s′
+  same-form S S′ e =
       record {
         next = next;
         makes = at 1 0 (omega arith);
         target = λ x lt. column (s .target) (s′ .target) x lt (at 2);
-        info = λ x lt. info-same (s .info x) (s′ .info x)
-            (sort-same (s .info x .sort) (s′ .info x .sort) (column (λ x. sort-number (s .info x .sort)) (λ x. sort-number (s′ .info x .sort)) x lt (at 3)))
-            (column (λ x. s .info x .type) (λ x. s′ .info x .type) x lt (at 4)) (column (λ x. s .info x .home) (λ x. s′ .info x .home) x lt (at 5));
-        placed = cell-same pred-row (s .placed) (s′ .placed) (omega (arith, R .placed)) (omega (arith, R′ .placed)) (at 6);
+        info = λ x lt. described-same (s .info x) (s′ .info x) (S .info x lt .1) (S′ .info x (omega (arith, next)) .1)
+            (column (λ x. described (s .info x)) (λ x. described (s′ .info x)) x lt (at 3));
+        placed = cell-same pred-row (s .placed) (s′ .placed) (omega (arith, R .placed)) (omega (arith, R′ .placed)) (at 4);
         zeros = pairs-same (s .zeros) (s′ .zeros)
-            (cell-same zero-row (firsts (s .zeros)) (firsts (s′ .zeros)) (omega (arith, R .zeros, length-map (s .zeros) first)) (omega (arith, R′ .zeros, length-map (s′ .zeros) first)) (at 7))
-            (cell-same zero-row (seconds (s .zeros)) (seconds (s′ .zeros)) (omega (arith, R .zeros, length-map (s .zeros) second)) (omega (arith, R′ .zeros, length-map (s′ .zeros) second)) (at 8));
-        params = λ b lt. rows-same (limits .blocks) param-row (s .params) (s′ .params) b lt (omega (arith, R .params b)) (omega (arith, R′ .params b)) (at 9);
+            (cell-same zero-row (firsts (s .zeros)) (firsts (s′ .zeros)) (omega (arith, R .zeros, length-map (s .zeros) first)) (omega (arith, R′ .zeros, length-map (s′ .zeros) first)) (at 5))
+            (cell-same zero-row (seconds (s .zeros)) (seconds (s′ .zeros)) (omega (arith, R .zeros, length-map (s .zeros) second)) (omega (arith, R′ .zeros, length-map (s′ .zeros) second)) (at 6));
+        params = λ b lt. rows-same (limits .blocks) param-row (s .params) (s′ .params) b lt (omega (arith, R .params b)) (omega (arith, R′ .params b)) (at 7);
         pending = λ b lt. rows-same (limits .blocks) param-row (λ c. firsts (s .pending c)) (λ c. firsts (s′ .pending c)) b lt
-            (omega (arith, R .waits b, length-map (s .pending b) first)) (omega (arith, R′ .waits b, length-map (s′ .pending b) first)) (at 10);
+            (omega (arith, R .waits b, length-map (s .pending b) first)) (omega (arith, R′ .waits b, length-map (s′ .pending b) first)) (at 8);
         defs = λ v b lv lb. option-same (def s v b) (def s′ v b)
-            (sym (grid-at (limits .blocks) (λ v b. plus-one (def s v b)) v b lb) ∙ at 11 (v * limits .blocks + b) (digits-lt lv lb) ∙ grid-at (limits .blocks) (λ v b. plus-one (def s′ v b)) v b lb);
+            (sym (grid-at (limits .blocks) (λ v b. plus-one (def s v b)) v b lb) ∙ at 9 (v * limits .blocks + b) (digits-lt lv lb) ∙ grid-at (limits .blocks) (λ v b. plus-one (def s′ v b)) v b lb);
         args = λ p i lp li.
             sym (pair-at (limits .dests) (s .args) p i li)
             ∙ rows-same (limits .blocks * limits .dests) param-row (arg-rows s) (arg-rows s′) (p * limits .dests + i) (digits-lt lp li)
-            (omega (arith, R .args ((p * limits .dests + i) / limits .dests) ((p * limits .dests + i) % limits .dests))) (omega (arith, R′ .args ((p * limits .dests + i) / limits .dests) ((p * limits .dests + i) % limits .dests))) (at 12)
+            (omega (arith, R .args ((p * limits .dests + i) / limits .dests) ((p * limits .dests + i) % limits .dests))) (omega (arith, R′ .args ((p * limits .dests + i) / limits .dests) ((p * limits .dests + i) % limits .dests))) (at 10)
             ∙ pair-at (limits .dests) (s′ .args) p i li;
       }
     where
@@ -136,4 +156,4 @@ module _ (g g′ : Graph) (s s′ : Form) (R : Rooms g s) (R′ : Rooms g′ s�
 -- two sessions that leave the same cells have the same tables
 pub same-sessions : (cs ds : List Call) → render-graph (session cs .graph) ≡ render-graph (session ds .graph) → render-form (session cs .form) ≡ render-form (session ds .form)
     → Same-graph (session cs .graph) (session ds .graph) × Same-form (session cs .form) (session ds .form)
-same-sessions cs ds e f = (same-graph _ _ _ _ (rooms cs) (rooms ds) e, same-form _ _ _ _ (rooms cs) (rooms ds) f)
+same-sessions cs ds e f = (same-graph _ _ _ _ (rooms cs) (rooms ds) e, same-form _ _ _ _ (rooms cs) (rooms ds) (stored cs) (stored ds) f)

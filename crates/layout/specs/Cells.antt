@@ -6,7 +6,6 @@ use mathlib.Core.List.{List, [], _∷_, _++_}
 use mathlib.Core.Bool.{cond}
 use lib.Dec.{ltb}
 use lib.ListN.{length, getD, take}
-use Rattle.definition.specs.Base.{put}
 
 abbrev pub Table : Type 0
 Table = ℕ → ℕ
@@ -53,8 +52,3 @@ rows w f = grid w (λ r. cell (f r))
 -- f below n, zeros from there on
 abbrev pub upto : ℕ → Table → Table
 upto n f j = cond (ltb j n) (f j) 0
-
--- a stack whose top is in front of the list: the top stands in the highest cell used
-abbrev pub pile : List ℕ → Table
-pile [] = blank
-pile (x ∷ xs) = put (length xs) x (pile xs)

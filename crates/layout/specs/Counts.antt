@@ -13,6 +13,10 @@ counts values calls results call = record { values = values; calls = calls; resu
 abbrev pub more : Counts → Counts
 more c = counts (c .values + 1) (c .calls) (c .results) (c .call)
 
+-- so many values
+abbrev pub with-values : ℕ → Counts → Counts
+with-values n c = counts n (c .calls) (c .results) (c .call)
+
 -- one scheduled call more, one less
 abbrev pub one-call : Counts → Counts
 one-call c = counts (c .values) (c .calls + 1) (c .results) (c .call)

@@ -1,16 +1,17 @@
 -- Which table holds what, in the three lent lists: graph, form and work. Sizes follow from the limits.
 -- Assumes nothing.
-use Prim.Native.Nat.{ℕ, suc, _*_, _/_, _%_}
+use Prim.Native.Nat.{ℕ, suc, _+_, _*_, _/_, _%_, _≤_, _<_}
 use mathlib.Core.Path.{_≡_, refl}
-use mathlib.Core.List.{List, [], _∷_, map}
-use lib.ListN.{length}
+use mathlib.Core.List.{List, [], _∷_, map, reverse}
+use lib.ListN.{length, getD}
 use Rattle.entity.specs.Limits.{limits, row-cells, zero-room, value-room, param-room, pred-room, call-room, result-room, graph-need, form-need, work-need}
-use Rattle.definition.specs.Form.{Graph, Form, def}
+use Rattle.entity.specs.Described.{packed}
+use Rattle.definition.specs.Form.{Graph, Form, Info, def}
 use Rattle.definition.specs.Session.{bit}
 use Rattle.definition.specs.Tables.{sort-number, plus-one}
 use Rattle.meaning.specs.Machine.{Task, look, finish, Conf}
 use Rattle.layout.specs.declared.Counts.{Counts}
-use Rattle.layout.specs.Cells.{Table, sum, render, Holds, grid, cell, rows, upto, pile}
+use Rattle.layout.specs.Cells.{Table, sum, base, render, Holds, grid, cell, rows, upto}
 
 abbrev pub firsts : List (ℕ × ℕ) → List ℕ
 firsts = map (λ w. w .0)
@@ -47,9 +48,13 @@ graph-tables g =
     ∷ rows pred-row (g .preds)  -- 5
     ∷ []
 
+-- what a value is, in one cell; no value is marked yet
+abbrev pub described : Info → ℕ
+described i = packed (i .type) (sort-number (i .sort)) 0 (i .home)
+
 abbrev pub form-sizes : List ℕ
 form-sizes =
-    1 ∷ 1 ∷ value-room limits ∷ value-room limits ∷ value-room limits ∷ value-room limits ∷ pred-row ∷ zero-row ∷ zero-row
+    1 ∷ 1 ∷ value-room limits ∷ value-room limits ∷ pred-row ∷ zero-row ∷ zero-row
     ∷ limits .blocks * param-row ∷ limits .blocks * param-row
     ∷ limits .variables * limits .blocks ∷ limits .blocks * (limits .dests * param-row) ∷ []
 
@@ -58,16 +63,14 @@ form-tables s =
     (λ i. s .next)  -- 0
     ∷ (λ i. s .makes)  -- 1
     ∷ upto (s .next) (s .target)  -- 2
-    ∷ upto (s .next) (λ x. sort-number (s .info x .sort))  -- 3
-    ∷ upto (s .next) (λ x. s .info x .type)  -- 4
-    ∷ upto (s .next) (λ x. s .info x .home)  -- 5
-    ∷ cell (s .placed)  -- 6
-    ∷ cell (firsts (s .zeros))  -- 7: the calls
-    ∷ cell (seconds (s .zeros))  -- 8: the blocks
-    ∷ rows param-row (s .params)  -- 9
-    ∷ rows param-row (λ b. firsts (s .pending b))  -- 10: the variables
-    ∷ grid (limits .blocks) (λ v b. plus-one (def s v b))  -- 11
-    ∷ rows param-row (λ r. s .args (r / limits .dests) (r % limits .dests))  -- 12
+    ∷ upto (s .next) (λ x. described (s .info x))  -- 3
+    ∷ cell (s .placed)  -- 4
+    ∷ cell (firsts (s .zeros))  -- 5: the calls
+    ∷ cell (seconds (s .zeros))  -- 6: the blocks
+    ∷ rows param-row (s .params)  -- 7
+    ∷ rows param-row (λ b. firsts (s .pending b))  -- 8: the variables
+    ∷ grid (limits .blocks) (λ v b. plus-one (def s v b))  -- 9
+    ∷ rows param-row (λ r. s .args (r / limits .dests) (r % limits .dests))  -- 10
     ∷ []
 
 -- A scheduled call in two cells: 0 and the block to read at; or the parameter plus one and its block.
@@ -81,9 +84,6 @@ task-block (finish x b) = b
 
 abbrev pub work-sizes : List ℕ
 work-sizes = call-room limits ∷ call-room limits ∷ result-room limits ∷ []
-
-abbrev pub work-tables : List Task → List ℕ → List Table
-work-tables ts rs = pile (map task-value ts) ∷ pile (map task-block ts) ∷ pile rs ∷ []
 
 -- the tables fill what each list needs
 graph-fills : sum graph-sizes ≡ graph-need limits
@@ -101,8 +101,9 @@ render-graph g = render graph-sizes (graph-tables g)
 abbrev pub render-form : Form → List ℕ
 render-form s = render form-sizes (form-tables s)
 
-abbrev pub render-work : List Task → List ℕ → List ℕ
-render-work ts rs = render work-sizes (work-tables ts rs)
+-- no lookup is under way: zeros
+abbrev pub render-work : List ℕ
+render-work = render work-sizes []
 
 -- The lent cells and the counts show the graph, the form, the stacks.
 pub record Graphs (lent : List ℕ) (c : Counts) (g : Graph) : Type 0 where
@@ -113,8 +114,18 @@ pub record Shows (lent : List ℕ) (c : Counts) (s : Form) : Type 0 where
   pub cells : Holds form-sizes lent (form-tables s)
   pub next : c .values ≡ s .next
 
+-- The first cells of table t hold the stack xs, whose top is in front of the list, from its bottom on. What is above its top may be anything.
+abbrev pub Stacked : List ℕ → ℕ → List ℕ → Type 0
+Stacked lent t xs = (j : ℕ) → j < length xs → j < getD work-sizes t 0 → getD lent (base work-sizes t + j) 0 ≡ getD (reverse xs) j 0
+
+pub record Piles (lent : List ℕ) (ts : List Task) (rs : List ℕ) : Type 0 where
+  pub long : sum work-sizes ≤ length lent
+  pub values : Stacked lent 0 (map task-value ts)
+  pub blocks : Stacked lent 1 (map task-block ts)
+  pub held : Stacked lent 2 rs
+
 pub record Stacks (lent : List ℕ) (c : Counts) (ts : List Task) (rs : List ℕ) : Type 0 where
-  pub cells : Holds work-sizes lent (work-tables ts rs)
+  pub cells : Piles lent ts rs
   pub calls : c .calls ≡ length ts
   pub results : c .results ≡ length rs
 

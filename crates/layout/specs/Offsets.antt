@@ -20,10 +20,10 @@ widths = refl
 graph-starts : starts graph-sizes ≡ 0 ∷ 1 ∷ 66 ∷ 130 ∷ 194 ∷ 770 ∷ 4930 ∷ []
 graph-starts = refl
 
--- values, made values, target, sort, type, block, placed, zero calls, zero blocks, parameters, pending variables,
+-- values, made values, target, description, placed, zero calls, zero blocks, parameters, pending variables,
 -- last definitions, arguments
 form-starts : starts form-sizes
-    ≡ 0 ∷ 1 ∷ 2 ∷ 12290 ∷ 24578 ∷ 36866 ∷ 49154 ∷ 49219 ∷ 53316 ∷ 57413 ∷ 61573 ∷ 65733 ∷ 69829 ∷ 103109 ∷ []
+    ≡ 0 ∷ 1 ∷ 2 ∷ 12290 ∷ 24578 ∷ 24643 ∷ 28740 ∷ 32837 ∷ 36997 ∷ 41157 ∷ 45253 ∷ 78533 ∷ []
 form-starts = refl
 
 -- scheduled calls' values, their blocks, results

@@ -31,14 +31,14 @@ pub record Same-lists (t u : Lent) : Type 0 where
 abbrev pub lengths : Lent → Lengths
 lengths t = record { codes = length (t .codes); numbers = length (t .numbers); graph = length (t .graph); form = length (t .form); work = length (t .work) }
 
--- a session's answers and tables, each list as long as is needed; the stacks are empty
+-- a session's answers and tables, each list as long as is needed
 abbrev pub shown : State → Lent
 shown t = record {
   codes = map (λ d. d .code) (t .done);
   numbers = map (λ d. d .number) (t .done);
   graph = render-graph (t .graph);
   form = render-form (t .form);
-  work = render-work [] [];
+  work = render-work;
 }
 
 -- the first cells of each list, and the cells past those

@@ -2,7 +2,7 @@
 ghost use mathlib.Core.Path.{_≡_};
 ghost use Prim.Native.Nat.{_<_, _≤_};
 ghost use Rattle.entity.specs.Limits.{limits, value-room, call-room, result-room};
-ghost use Rattle.layout.specs.Counts.{more, one-call, call-less, one-result, results-less};
+ghost use Rattle.layout.specs.Counts.{more, with-values, one-call, call-less, one-result, results-less};
 ghost use Rattle.layout.specs.Layout.{graph-sizes, form-sizes, work-sizes};
 ghost use Rattle.layout.specs.Offsets.{starts};
 use entity::Block;
@@ -29,13 +29,9 @@ pub const MADE_COUNT: usize = VALUE_COUNT + 1;
 
 pub const TARGET: usize = MADE_COUNT + 1;
 
-pub const SORT: usize = TARGET + entity::VALUE_ROOM;
+pub const DESCRIBED: usize = TARGET + entity::VALUE_ROOM;
 
-pub const TYPE: usize = SORT + entity::VALUE_ROOM;
-
-pub const BLOCK: usize = TYPE + entity::VALUE_ROOM;
-
-pub const PLACED: usize = BLOCK + entity::VALUE_ROOM;
+pub const PLACED: usize = DESCRIBED + entity::VALUE_ROOM;
 
 pub const ZERO_CALLS: usize = PLACED + entity::PRED_ROW;
 
@@ -71,16 +67,14 @@ pub fn graph_starts() -> [usize; 7]
     ]
 }
 
-pub fn form_starts() -> [usize; 14]
+pub fn form_starts() -> [usize; 12]
     ensures { λ r. ⌜ r ≡ starts form-sizes ⌝ }
 {
     [
         VALUE_COUNT,
         MADE_COUNT,
         TARGET,
-        SORT,
-        TYPE,
-        BLOCK,
+        DESCRIBED,
         PLACED,
         ZERO_CALLS,
         ZERO_BLOCKS,
@@ -104,11 +98,12 @@ pub enum Call {
     FinishPredecessorsLookup(Value, Block),
 }
 
-// How many values there are, the heights of the two work stacks, and the number of this call. They travel by value beside the cells.
+// The heights of the two work stacks, how many values there are, and the number of this call. They travel by value beside the cells.
+// Heights are as wide as a register, so that a push doesn't have to take a pair of them apart.
 pub struct Counts {
+    pub calls: usize,
+    pub results: usize,
     pub values: u32,
-    pub calls: u32,
-    pub results: u32,
     pub call: u32,
 }
 
@@ -119,6 +114,14 @@ impl Counts {
         ensures { λ r. ⌜ r ≡ more self ⌝ }
     {
         self.values = self.values + 1;
+        self
+    }
+
+    // A run of the lookup machine leaves the stacks as it found them, so what it hands back is the count of values.
+    pub fn with_values(mut self, n: u32) -> Counts
+        ensures { λ r. ⌜ r ≡ with-values n self ⌝ }
+    {
+        self.values = n;
         self
     }
 
@@ -151,7 +154,7 @@ impl Counts {
         requires { ⌜ n ≤ self .results ⌝ }
         ensures { λ r. ⌜ r ≡ results-less n self ⌝ }
     {
-        self.results = self.results - n;
+        self.results = self.results - n as usize;
         self
     }
 }

@@ -12,6 +12,7 @@ use Rattle.entity.specs.declared.OptionValue.{OptionValue}
 use Rattle.entity.specs.declared.Value.{Value}
 use Rattle.entity.specs.Limits.{limits, value-room}
 use Rattle.entity.specs.Options.{value-of}
+use Rattle.entity.specs.Described.{type-room}
 use Rattle.definition.specs.Base.{_∷ʳ_}
 use Rattle.definition.specs.Form.{Graph, Form, param, def}
 use Rattle.definition.specs.Read.{make, set-params, mark-one, new-param, wait}
@@ -33,6 +34,9 @@ module _ {gl fl wl : List ℕ} {c : Counts} {v ty b : ℕ} {g : Graph} {s : Form
   module _ (h : Can-use gl fl wl c v ty b g s ts rs) where
     pub var-low : v < limits .variables
     var-low = le-trans (h .var) (h .seen .bounds .vars)
+
+    pub type-low : ty < type-room
+    type-low = omega (arith, h .type, h .seen .bounds .typed v (h .var))
 
     pub walk-can : Can-walk gl fl v b g s
     walk-can = record { seen = h .seen; cells = h .shows .cells; var = var-low; known = h .known }

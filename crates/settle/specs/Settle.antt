@@ -8,6 +8,7 @@ use lib.Dec.{eqb}
 use lib.ListN.{length, drop}
 use Rattle.entity.specs.declared.Value.{Value}
 use Rattle.entity.specs.Limits.{limits, value-room, zero-room, param-room, pred-room, result-room}
+use Rattle.entity.specs.Types.{type-count}
 use Rattle.definition.specs.Base.{has, every}
 use Rattle.definition.specs.Form.{Graph, Form, nought}
 use Rattle.definition.specs.Read.{resolve, is-dest, settle, make, log-zero, place-block}
@@ -55,6 +56,8 @@ judge (y ∷ ys) = cond (every (eqb y) ys) (Agreement.One (value y)) Agreement.M
 pub record Can-zero (fl : List ℕ) (c : Counts) (x b : ℕ) (s : Form) : Type 0 where
   pub make : Can-make fl c s
   pub there : x < s .next
+  pub typed : s .info x .type < type-count
+  pub known : b < limits .blocks
   pub log : length (s .zeros) < zero-room limits
   pub placed : length (s .placed) ≤ pred-room limits
   pub place : has b (s .placed) ≡ false → length (s .placed) < pred-room limits
@@ -97,6 +100,7 @@ pub record Can-feed-all (gl fl wl : List ℕ) (c : Counts) (b : ℕ) (g : Graph)
 pub record Settles (g : Graph) (x b : ℕ) (s : Form) (rs : List ℕ) : Type 0 where
   pub known : b < g .blocks
   pub there : x < s .next
+  pub typed : s .info x .type < type-count
   pub room : s .next < value-room limits
   pub fresh : s .target (s .next) ≡ s .next
   pub targets : (y : ℕ) → y < s .next → s .target y < s .next

@@ -137,7 +137,7 @@ fn replace_param(form: &mut [u32], block: Block, param: Value, val: Value)
 pub fn finish_predecessors_lookup(
     graph: &[u32],
     form: &mut [u32],
-    work: &mut [u32],
+    work: &[u32],
     c: Counts,
     sentinel: Value,
     dest: Block,
@@ -145,7 +145,7 @@ pub fn finish_predecessors_lookup(
     requires { ⌜ All-with (Can-settle (now graph) (now form) (now work) c (sentinel .0) (dest .0)) ⌝ }
     ensures { λ r. ⌜ ((g : Graph) → (s : Form) → (ts : List Task) → (rs : List ℕ)
         → Can-settle (now (graph .entry)) (now (form .entry)) (now (work .entry)) c (sentinel .0) (dest .0) g s ts rs
-        → Settled (now (form .exit)) (now (work .exit)) (c .call) r (sentinel .0) (dest .0) g s ts rs) ⌝ }
+        → Settled (now (form .exit)) (now (work .entry)) (c .call) r (sentinel .0) (dest .0) g s ts rs) ⌝ }
 {
     let n = graph::predecessor_count(graph, dest);
     let verdict = agree(form, work, c, n, sentinel);
@@ -154,17 +154,17 @@ pub fn finish_predecessors_lookup(
             let zero = Value(c.values);
             let d = emit_zero(form, c, sentinel, dest);
             replace_param(form, dest, sentinel, zero);
-            let e = work::drop_results(work, d, n);
+            let e = d.pop_results(n);
             Finished(zero, e)
         }
         Agreement::One(val) => {
             replace_param(form, dest, sentinel, val);
-            let e = work::drop_results(work, c, n);
+            let e = c.pop_results(n);
             Finished(val, e)
         }
         Agreement::Many => {
             append_arguments(graph, form, work, c, dest);
-            let e = work::drop_results(work, c, n);
+            let e = c.pop_results(n);
             Finished(sentinel, e)
         }
     }

@@ -33,6 +33,7 @@ use Rattle.meaning.proofs.Stored.{stored-now}
 use Rattle.meaning.proofs.Sums.{sum-more, pigeon}
 use Rattle.lookup.specs.Find.{Open, Ready}
 use Rattle.settle.specs.Settle.{Settles}
+use Rattle.ssa.specs.Run.{Asks}
 
 module _ (g : Graph) (G : Sound g) (B : Bounds g) (v : ℕ) (lv : v < length (g .types)) (ts : List Task) (rs : List ℕ) (s : Form) where
   -- a visit, where k parameters are to be settled
@@ -61,7 +62,7 @@ module _ (g : Graph) (G : Sound g) (B : Bounds g) (v : ℕ) (lv : v < length (g 
       omega (arith, one)
 
   module _ (others : ℕ → List (ℕ × ℕ)) (k : ℕ) where
-    pub look-asks : (p : ℕ) → Moment g v others k (conf (look p ∷ ts) rs s) → (p < g .blocks) × Ready g v s ts rs
+    look-asks : (p : ℕ) → Moment g v others k (conf (look p ∷ ts) rs s) → (p < g .blocks) × Ready g v s ts rs
     look-asks p m =
         let h = m .now .0 in (
           h .sane .0,
@@ -69,13 +70,14 @@ module _ (g : Graph) (G : Sound g) (B : Bounds g) (v : ℕ) (lv : v < length (g 
               (λ d ld lack. omega (arith, m .within .calls, calls-weigh d ld lack)) (omega (arith, m .within .both)),
         )
 
-    pub finish-asks : (x b : ℕ) → Moment g v others k (conf (finish x b ∷ ts) rs s) → Settles g x b s rs
+    finish-asks : (x b : ℕ) → Moment g v others k (conf (finish x b ∷ ts) rs s) → Settles g x b s rs
     finish-asks x b m =
         let r = finish-room g G B v lv others k rs s x b ts m in
         let t = stored-now g G B v others k (conf (finish x b ∷ ts) rs s) m in
         record {
           known = r .block;
           there = r .value;
+          typed = t .info x (r .value) .1;
           room = r .next;
           fresh = t .unused (s .next) (omega arith);
           targets = t .targets;
@@ -98,7 +100,14 @@ module _ (g : Graph) (G : Sound g) (B : Bounds g) (v : ℕ) (lv : v < length (g 
             within c (inl q) = (c, omega (arith, lb, q), refl)
             within c (inr i) = (c, t .placed c i, refl)
 
--- the first visit of a use is no scheduled call
+-- what the call on top asks
+pub asks-at : (g : Graph) → Sound g → Bounds g → (v : ℕ) → v < length (g .types) → (others : ℕ → List (ℕ × ℕ)) (k : ℕ) (ts : List Task) (rs : List ℕ) (s : Form)
+    → Moment g v others k (conf ts rs s) → Asks g v ts rs s
+asks-at g G B v lv others k [] rs s m = tt
+asks-at g G B v lv others k (look p ∷ ts) rs s m = look-asks g G B v lv ts rs s others k p m
+asks-at g G B v lv others k (finish x b ∷ ts) rs s m = finish-asks g G B v lv ts rs s others k x b m
+
+-- the first visit of a use, which comes before its run's moments
 pub first-asks : (g : Graph) (s : Form) → Steady g s → (v : ℕ) → v < length (g .types) → Ready g v s [] []
 first-asks g s h v lv = ready g (h .sound) (h .bounds) v lv [] [] s idle 0 (h .rest)
     (λ d _ _. omega (arith, preds-room g (h .sound) d, h .bounds .few)) (omega arith)

@@ -16,10 +16,10 @@ use Rattle.entity.specs.declared.Value.{Value}
 use Rattle.definition.specs.Form.{Graph, Form, def}
 use Rattle.definition.specs.Tables.{plus-one}
 use Rattle.meaning.specs.Machine.{Task, Conf, conf, turn}
-use Rattle.meaning.proofs.Fall.{left}
+use Rattle.meaning.proofs.Fall.{left, turn-falls}
 use Rattle.meaning.proofs.Lacking.{weight}
 use Rattle.meaning.proofs.Machine.{Goes}
-use Rattle.meaning.proofs.Port.{falls, idle-goes}
+use Rattle.meaning.proofs.Port.{idle-goes}
 use Rattle.meaning.proofs.Sums.{sum, sum-le}
 use Rattle.meaning.proofs.Turns.{goes-on}
 use Rattle.layout.specs.declared.Counts.{Counts}
@@ -27,6 +27,7 @@ use Rattle.layout.specs.Cells.{base}
 use Rattle.layout.specs.Counts.{results-less}
 use Rattle.layout.specs.Layout.{form-sizes, graph-sizes, Stacks, Shown}
 use Rattle.layout.proofs.Rows.{row-count}
+use Rattle.layout.proofs.Stacks.{stacks-drop}
 use Rattle.graph.specs.Seen.{preds-start}
 use Rattle.graph.proofs.Cells.{blocks-cell, preds-row}
 use Rattle.form.proofs.Variables.{definition-is}
@@ -37,7 +38,7 @@ use Rattle.ssa.specs.Run.{Under-way, Can-run, Ran}
 -- ---- what is left, read off the cells: each block without a definition could still schedule a call for each predecessor, and one to settle
 
 cell-weight : List ℕ → List ℕ → ℕ → ℕ → ℕ
-cell-weight gl fl v b = cond (eqb (getD fl (base form-sizes 11 + (v * limits .blocks + b)) 0) 0) (suc (getD gl (preds-start b) 0)) 0
+cell-weight gl fl v b = cond (eqb (getD fl (base form-sizes 9 + (v * limits .blocks + b)) 0) 0) (suc (getD gl (preds-start b) 0)) 0
 
 -- shut, like the sum
 pub to-come : List ℕ → List ℕ → ℕ → ℕ
@@ -110,7 +111,7 @@ module _ {gl fl₀ wl₀ : List ℕ} {c₀ : Counts} {v ty : ℕ} {fl wl : List 
 
         pub run-falls : r .calls + to-come gl fl₁ v < c .calls + to-come gl fl v
         run-falls =
-            let f = falls g (turn-can .seen .sound) (turn-can .seen .bounds) v (turn-can .var) (turn-can .others) (turn-can .number) (at .results) (at .form) (first .0) (first .1) (turn-can .moment) in
+            let f = turn-falls g (turn-can .seen .sound) v (first .0) (first .1) (at .results) (at .form) (turn-can .low) in
             omega (arith, left-is turn-can, left-is after, f)
 
         run-next : (at : Conf) × Can-run gl fl₁ wl₁ r v ty g at x s
@@ -131,16 +132,17 @@ module _ {gl fl₀ wl₀ : List ℕ} {c₀ : Counts} {v ty : ℕ} {fl wl : List 
       pub take-can : Can-take wl c 1 [] (x ∷ [])
       take-can = record { stacks = ended .work; enough = omega arith; height = omega arith }
 
-      pub ran : {wl₁ : List ℕ} {val : Value} {e : Counts}
-          → ((ts : List Task) → (rs : List ℕ) → Can-take wl c 1 ts rs → val .0 ≡ getD (lasts 1 rs) 0 0)
-          → (e ≡ results-less 1 c) × ((ts : List Task) → (rs : List ℕ) → Can-take wl c 1 ts rs → Stacks wl₁ (results-less 1 c) ts (drop 1 rs))
-          → (r : Finished) → r .0 .0 ≡ val .0 → r .1 ≡ e → Ran fl wl₁ (c₀ .call) r x s
-      ran {wl₁} is less r ev ec = record {
-        call = ap (λ (n : Counts). n .call) (ec ∙ less .0) ∙ here .call ∙ sym (h .under .call);
+      pub one-held : 1 ≤ c .results
+      one-held = omega (arith, ended .work .results)
+
+      pub ran : {val : Value} → ((ts : List Task) → (rs : List ℕ) → Can-take wl c 1 ts rs → val .0 ≡ getD (lasts 1 rs) 0 0)
+          → (r : Finished) → r .0 .0 ≡ val .0 → r .1 ≡ results-less 1 c → Ran fl wl (c₀ .call) r x s
+      ran is r ev ec = record {
+        call = ap (λ (n : Counts). n .call) ec ∙ here .call ∙ sym (h .under .call);
         val = ev ∙ is [] (x ∷ []) take-can;
-        shown = subst (λ (n : Counts). Shown fl wl₁ n (conf [] [] s)) (sym (ec ∙ less .0)) (record {
+        shown = subst (λ (n : Counts). Shown fl wl n (conf [] [] s)) (sym ec) (record {
           form = record { cells = ended .form .cells; next = ended .form .next };
-          work = less .1 [] (x ∷ []) take-can;
+          work = stacks-drop wl c [] (x ∷ []) (ended .work) 1;
         });
       }
 

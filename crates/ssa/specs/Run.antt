@@ -1,29 +1,43 @@
--- A run of the machine over the lent cells: one turn, and all of them. What the turns need is said of the definition alone, by `Moment`.
+-- A run of the machine over the lent cells: one turn, and all of them. What a turn needs, and what is so after it, is said of the definition alone.
 -- Assumes nothing.
-use Prim.Native.Nat.{ℕ, _<_}
+use Prim.Native.Nat.{ℕ, _<_, _≤_}
 use mathlib.Core.Path.{_≡_}
 use mathlib.Core.List.{List, [], _∷_}
 use lib.ListN.{length}
+use Rattle.entity.specs.Limits.{limits, call-room}
 use Rattle.definition.specs.Form.{Graph, Form}
 use Rattle.definition.specs.Read.{type-of}
-use Rattle.meaning.specs.Machine.{Task, Conf, conf}
+use Rattle.meaning.specs.Machine.{Task, look, finish, Conf, conf, turn}
+use Rattle.meaning.proofs.Heights.{Low}
 use Rattle.meaning.proofs.Machine.{Goes}
 use Rattle.meaning.proofs.Rooms.{Moment}
 use Rattle.layout.specs.declared.Counts.{Counts}
 use Rattle.layout.specs.Layout.{Shown}
 use Rattle.graph.specs.Seen.{Seen}
+use Rattle.lookup.specs.Find.{Ready}
 use Rattle.settle.specs.declared.Finished.{Finished}
+use Rattle.settle.specs.Settle.{Settles}
 
--- The cells show the configuration k of a run for variable v. Other parameters wait for runs of their own.
+-- what the call on top asks: a visit or settling
+abbrev pub Asks : Graph → ℕ → List Task → List ℕ → Form → Type 0
+Asks g v [] rs s = Unit {0}
+Asks g v (look p ∷ ts) rs s = (p < g .blocks) × Ready g v s ts rs
+Asks g v (finish x b ∷ ts) rs s = Settles g x b s rs
+
+-- The cells show the configuration k of a run for variable v: the next turn can be run, and after it the run is at a moment of which all is known.
+-- Other parameters wait for runs of their own.
 pub record Under-way (gl fl wl : List ℕ) (c : Counts) (v ty : ℕ) (g : Graph) (k : Conf) : Type 0 where
   pub seen : Seen gl g
   pub call : c .call ≡ g .call
   pub shown : Shown fl wl c k
   pub var : v < length (g .types)
   pub type : ty ≡ type-of g v
+  pub low : Low g (k .tasks)
+  pub few : length (k .tasks) ≤ call-room limits
+  pub asks : Asks g v (k .tasks) (k .results) (k .form)
   pub others : ℕ → List (ℕ × ℕ)
   pub number : ℕ
-  pub moment : Moment g v others number k
+  pub after : Moment g v others number (turn g v (k .tasks) (k .results) (k .form))
 
 -- there are a graph, a task on top, what is below it, and a form such that
 abbrev pub Turn-with : (Graph → Task → List Task → List ℕ → Form → Type 0) → Type 0

@@ -17,6 +17,7 @@ ghost use Rattle.ssa.specs.Run.{Turn-with, Run-with, Under-way, Can-run,
 ghost use Rattle.ssa.specs.Use.{State-with, At-rest, Can-read, Has-read, Can-fill, Has-filled, Can-seal, Has-sealed, Marked};
 use entity::Block;
 use entity::OptionValue;
+use entity::Branch;
 use entity::Value;
 use entity::Variable;
 use layout::Call;
@@ -34,6 +35,7 @@ pub fn def_var(form: &mut [u32], var: Variable, val: Value, block: Block)
 }
 
 // The value of the variable in the block. Mostly it is recorded there, so that is tested first: then no stack is touched.
+// Else the machine makes the first visit too, so that there is one place where blocks are visited, and the visit is compiled into the machine's loop.
 pub fn use_var(
     graph: &[u32],
     form: &mut [u32],
@@ -51,8 +53,11 @@ pub fn use_var(
         return Finished(val, c);
     }
     let ty = graph::variable_type(graph, var);
-    let d = lookup::use_var_nonlocal(graph, form, work, c, var, ty, block);
-    run_state_machine(graph, form, work, d, var, ty)
+    let d = work::push_call(work, c, Call::UseVar(Branch(block.0)));
+    let f = run_state_machine(graph, form, work, d, var, ty);
+    let val = f.0;
+    let e = f.1;
+    Finished(val, c.with_values(e.values))
 }
 
 // Seals the blocks by number; those that are sealed stay as they are.
@@ -136,7 +141,8 @@ fn predecessors_lookup(
     let ty = graph::variable_type(graph, var);
     let d = lookup::begin_predecessors_lookup(graph, work, c, sentinel, dest);
     let f = run_state_machine(graph, form, work, d, var, ty);
-    f.1
+    let e = f.1;
+    c.with_values(e.values)
 }
 
 pub fn has_any_predecessors(graph: &[u32], block: Block) -> bool
@@ -166,7 +172,7 @@ fn run_state_machine(
         d = step(graph, form, work, d, var, ty);
     }
     let val = work::result(work, d, 1, 0);
-    let e = work::drop_results(work, d, 1);
+    let e = d.pop_results(1);
     Finished(val, e)
 }
 

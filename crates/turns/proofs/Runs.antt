@@ -1,5 +1,5 @@
--- The loop over the calls: cleared cells show the empty session; a turn leads to the session of one call more; after the last the cells are what the
--- whole session shows.
+-- The loop over the calls: cleared cells show the empty session; a turn leads to the session of one call more; after the last, with the stacks' cells
+-- cleared, the cells are what the whole session shows.
 -- Assumes nothing.
 use Prim.Native.Nat.{ℕ, zero, suc, _+_, _≤_, _<_}
 use mathlib.Core.Path.{_≡_, refl, sym, ap, _∙_, subst}
@@ -17,10 +17,11 @@ use Rattle.meaning.proofs.Answers.{run-last}
 use Rattle.layout.specs.declared.Counts.{Counts}
 use Rattle.layout.specs.Counts.{counts}
 use Rattle.layout.specs.Cells.{render}
-use Rattle.layout.specs.Layout.{graph-sizes, graph-tables, form-sizes, form-tables, work-sizes, work-tables}
+use Rattle.layout.specs.Layout.{graph-sizes, graph-tables, form-sizes, form-tables, render-work}
 use Rattle.layout.specs.Outcome.{lent, Same-lists, shown}
 use Rattle.layout.proofs.Cells.{render-length, render-held, holds-render}
 use Rattle.layout.proofs.Outcome.{calls-length}
+use Rattle.layout.proofs.Stacks.{no-piles}
 use Rattle.clear.specs.Cleared.{Long, Cleared}
 use Rattle.turns.specs.Turns.{Turned, Lined, call-at, Exact}
 
@@ -43,31 +44,31 @@ pub record Running (ks xs ys zs ls ns gl fl wl : List ℕ) (c : Counts) (i : ℕ
   pub exact : Exact gl fl wl
   pub turned : Turned ks ls ns gl fl wl c i (session (take i (calls ks xs ys zs)))
 
-pub long : {gl fl wl : List ℕ} → Exact gl fl wl → Long gl fl wl
-long h = record { graph-long = omega (arith, h .graph-exact); form-long = omega (arith, h .form-exact); work-long = omega (arith, h .work-exact) }
+pub long : {gl fl wl : List ℕ} → Exact gl fl wl → Long gl fl
+long h = record { graph-long = omega (arith, h .graph-exact); form-long = omega (arith, h .form-exact) }
+
+pub work-long : {gl fl wl : List ℕ} → Exact gl fl wl → work-need limits ≤ length wl
+work-long h = omega (arith, h .work-exact)
 
 -- nothing is past the need
 only : (l l′ : List ℕ) (n : ℕ) (r : List ℕ) → length l ≡ n → l′ ≡ r ++ drop n l → l′ ≡ r
 only l l′ n r e q = q ∙ ap (λ (s : List ℕ). r ++ s) (rw (← e) (drop-length l)) ∙ append-nil r
 
-module _ {gl fl wl gl′ fl′ wl′ : List ℕ} (e : Exact gl fl wl) (h : Cleared gl fl wl gl′ fl′ wl′) where
+module _ {gl fl wl gl′ fl′ : List ℕ} (e : Exact gl fl wl) (h : Cleared gl fl gl′ fl′) where
   graph-is : gl′ ≡ render graph-sizes (graph-tables (empty .graph))
   graph-is = only gl gl′ (graph-need limits) _ (e .graph-exact) (h .graph-empty)
 
   form-is : fl′ ≡ render form-sizes (form-tables (empty .form))
   form-is = only fl fl′ (form-need limits) _ (e .form-exact) (h .form-empty)
 
-  work-is : wl′ ≡ render work-sizes (work-tables [] [])
-  work-is = only wl wl′ (work-need limits) _ (e .work-exact) (h .work-empty)
-
-  pub running-start : {ks xs ys zs ls ns : List ℕ} → Lined (length ks) xs ys zs ls ns → Running ks xs ys zs ls ns gl′ fl′ wl′ (counts 0 0 0 0) 0
+  pub running-start : {ks xs ys zs ls ns : List ℕ} → Lined (length ks) xs ys zs ls ns → Running ks xs ys zs ls ns gl′ fl′ wl (counts 0 0 0 0) 0
   running-start q = record {
     most = omega arith;
     lined = q;
     exact = record {
       graph-exact = ap length graph-is ∙ render-length graph-sizes (graph-tables (empty .graph));
       form-exact = ap length form-is ∙ render-length form-sizes (form-tables (empty .form));
-      work-exact = ap length work-is ∙ render-length work-sizes (work-tables [] []);
+      work-exact = e .work-exact;
     };
     turned = record {
       told = record { kinds = refl; codes = refl; numbers = refl };
@@ -81,7 +82,7 @@ module _ {gl fl wl gl′ fl′ wl′ : List ℕ} (e : Exact gl fl wl) (h : Clear
           };
           sure = empty-sure;
         };
-        idle = render-held work-sizes wl′ (work-tables [] []) work-is;
+        idle = no-piles wl (work-long e);
       };
       turns = refl;
     };
@@ -127,11 +128,11 @@ module _ {ks xs ys zs ls ns gl fl wl : List ℕ} {c : Counts} {i : ℕ} (h : Run
     filled : (l : List ℕ) → length l ≡ length ks → take (length (session all .done)) l ≡ l
     filled l e = take-all (length (session all .done)) l (omega (arith, e, h .most, past, last .turns))
 
-    pub running-end : Same-lists (lent ls ns gl fl wl) (shown (session (calls ks xs ys zs)))
-    running-end = record {
+    pub running-end : {wl′ : List ℕ} → wl′ ≡ render-work ++ drop (work-need limits) wl → Same-lists (lent ls ns gl fl wl′) (shown (session (calls ks xs ys zs)))
+    running-end {wl′} w = record {
       codes = sym (filled ls (h .lined .codes-long)) ∙ last .told .codes;
       numbers = sym (filled ns (h .lined .numbers-long)) ∙ last .told .numbers;
       graph = holds-render graph-sizes gl (graph-tables (session all .graph)) (h .exact .graph-exact) (last .between .showing .leaves .graph .cells);
       form = holds-render form-sizes fl (form-tables (session all .form)) (h .exact .form-exact) (last .between .showing .leaves .form .cells);
-      work = holds-render work-sizes wl (work-tables [] []) (h .exact .work-exact) (last .between .idle);
+      work = only wl wl′ (work-need limits) render-work (h .exact .work-exact) w;
     }

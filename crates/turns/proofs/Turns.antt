@@ -11,8 +11,7 @@ use Rattle.definition.specs.Form.{Graph, Form}
 use Rattle.definition.specs.Session.{Call, Done, State, Reply as Defined, no, ok, reply, tick, after, step}
 use Rattle.meaning.proofs.Sure.{Sure, step-sure}
 use Rattle.layout.specs.declared.Counts.{Counts}
-use Rattle.layout.specs.Cells.{Holds}
-use Rattle.layout.specs.Layout.{work-sizes, work-tables}
+use Rattle.layout.specs.Layout.{Piles}
 use Rattle.reply.specs.declared.Reply.{Reply}
 use Rattle.reply.specs.Replies.{Leaves}
 use Rattle.calls.specs.Calls.{Replied}
@@ -30,7 +29,7 @@ counted t d l h = omega (arith, l .graph .call, h .count, length-append (t .done
 module _ {gl fl wl : List ℕ} {r : Reply} (t : State) where
   module _ {ks ls ns : List ℕ} {i : ℕ} (told : Told ks ls ns (t .done)) (at : i ≡ length (t .done)) (lk : i < length ks) (ll : i < length ls) (ln : i < length ns) where
     one-more : {g : Graph} {s : Form} (d : Done) → d .asked .kind ≡ getD ks i 0 → r .code ≡ d .code → r .number ≡ d .number → Leaves gl fl (r .counts) g s
-        → Holds work-sizes wl (work-tables [] []) → Sure (then t g s d) → Turned ks (set ls i (r .code)) (set ns i (r .number)) gl fl wl (next-call (r .counts)) (suc i) (then t g s d)
+        → Piles wl [] [] → Sure (then t g s d) → Turned ks (set ls i (r .code)) (set ns i (r .number)) gl fl wl (next-call (r .counts)) (suc i) (then t g s d)
     one-more d kind ec en l idle h = rw (ec, en) record {
       told = told-more told at lk ll ln d kind;
       between = record {

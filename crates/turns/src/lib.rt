@@ -25,9 +25,9 @@ fn next_call(c: Counts) -> Counts
     ensures { λ r. ⌜ r ≡ next-call c ⌝ }
 {
     Counts {
-        values: c.values,
         calls: c.calls,
         results: c.results,
+        values: c.values,
         call: c.call + 1,
     }
 }
@@ -111,11 +111,11 @@ pub fn run(
     ensures { λ r. ⌜ Same-lists (lent (now (codes .exit)) (now (numbers .exit)) (now (graph .exit)) (now (form .exit)) (now (work .exit)))
         (shown (session (calls (now (kinds .entry)) (now (xs .entry)) (now (ys .entry)) (now (zs .entry))))) ⌝ }
 {
-    clear::clear(graph, form, work);
+    clear::clear(graph, form);
     let mut c = Counts {
-        values: 0,
         calls: 0,
         results: 0,
+        values: 0,
         call: 0,
     };
     let mut i: usize = 0;
@@ -123,4 +123,5 @@ pub fn run(
         c = turn(kinds, xs, ys, zs, codes, numbers, graph, form, work, c, i);
         i += 1;
     }
+    clear::clear_work(work);
 }

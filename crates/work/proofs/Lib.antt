@@ -1,2 +1,1 @@
 pub mod Pops
-pub mod Drops

@@ -1,11 +1,11 @@
--- A scheduled call leaves: its two cells say which call it was, and zeroing them leaves the stack below it.
+-- A scheduled call leaves: its two cells say which call it was, and below them stands the rest of the stack.
 -- Assumes nothing.
 use Prim.Native.Nat.{ℕ, _+_, _-_, _<_}
 use mathlib.Core.Path.{_≡_, sym, ap, _∙_}
 use mathlib.Core.Logic.{_≢_}
 use mathlib.Core.List.{List}
 use native.Mathlib.Omega.{arith}
-use lib.ListN.{length, getD, set}
+use lib.ListN.{length, getD}
 use Rattle.entity.specs.Limits.{limits, call-room}
 use Rattle.meaning.specs.Machine.{Task, look, finish}
 use Rattle.layout.specs.declared.Counts.{Counts}
@@ -35,5 +35,5 @@ module _ (l : List ℕ) (c : Counts) (q : Task) (ts : List Task) (rs : List ℕ)
       → finish (getD l (base work-sizes 0 + (c .calls - 1)) 0 - 1) (getD l (base work-sizes 1 + (c .calls - 1)) 0) ≡ q
   call-finish n = rw (value-is, block-is) (task-finish q (λ z. n (value-is ∙ z)))
 
-  pub call-left : Stacks (set (set l (base work-sizes 0 + (c .calls - 1)) 0) (base work-sizes 1 + (c .calls - 1)) 0) (call-less c) ts rs
-  call-left = stacks-uncall l c ts rs q (p .stacks) (c .calls - 1) height below
+  pub call-left : Stacks l (call-less c) ts rs
+  call-left = stacks-uncall l c ts rs q (p .stacks)

@@ -27,7 +27,7 @@ pub record Can-answer (cells : List ℕ) (c : Counts) (ts : List Task) (rs : Lis
   pub stacks : Stacks cells c ts rs
   pub room : length rs < result-room limits
 
--- the last n results can be read and dropped
+-- the last n results can be read
 pub record Can-take (cells : List ℕ) (c : Counts) (n : ℕ) (ts : List Task) (rs : List ℕ) : Type 0 where
   pub stacks : Stacks cells c ts rs
   pub enough : n ≤ length rs

@@ -2,11 +2,12 @@
 -- e1 is the place past the first check, and so on. Assumes nothing.
 use borrow.Author.Needs.{needs}
 use borrow.Author.Tests.{le-leb, lt-leb, eq-eqb, ne-eqb}
+use Prim.Native.Nat.{_<_}
 use mathlib.Core.Path.{refl, sym, _∙_}
 use Rattle.definition.specs.Read.{type-of}
 use Rattle.reply.proofs.Asked.{seen, seen-some}
 use Rattle.reply.proofs.Answered.{tested, refused, changed, accepted}
-use Rattle.declare.proofs.Can.{has-value, value-small, has-def}
+use Rattle.declare.proofs.Can.{has-value, value-typed, value-small, has-def}
 use Rattle.declare.proofs.define.Statement.{statement}
 use Rattle.declare.proofs.define.Tie as tie
 
@@ -52,11 +53,12 @@ returns-4 c =
     let e1 = e2 .before .before in
     let a = e1 .before .before .before .before .args in
     λ t h.
+    let l : a .y < t .form .next = rw (← h .leaves .form .next) (e2 .if2 .left) in
     rw (
       tested (e1 .before .no-var .ensures .1 _ (t .form) (seen h)) (e1 .if1 .left),
-      lt-leb (t .form .next) (a .y) (rw (← h .leaves .form .next) (e2 .if2 .left)),
+      lt-leb (t .form .next) (a .y) l,
       tested (e3 .before .no-block .ensures .1 _ (t .form) (seen h)) (e3 .if3 .left),
-      ne-eqb (t .form .info (a .y) .type) (type-of (t .graph) (a .x)) (λ q. c .before .if4 .taken (c .before .before .before .value-type .ensures _ (has-value h _ (rw (← h .leaves .form .next) (e2 .if2 .left))) ∙ q ∙ sym (c .before .before .variable-type .ensures _ (seen h)))),
+      ne-eqb (t .form .info (a .y) .type) (type-of (t .graph) (a .x)) (λ q. c .before .if4 .taken (c .before .before .before .value-type .ensures .1 _ (has-value h _ l) (value-typed h _ l) ∙ q ∙ sym (c .before .before .variable-type .ensures _ (seen h)))),
     )
     (refused h (c .refuse4 .ensures))
 
@@ -76,11 +78,12 @@ returns-5 c =
     let e1 = e2 .before .before in
     let a = e1 .before .before .before .before .args in
     λ t h.
+    let l : a .y < t .form .next = rw (← h .leaves .form .next) (e2 .if2 .left) in
     rw (
       tested (e1 .before .no-var .ensures .1 _ (t .form) (seen h)) (e1 .if1 .left),
-      lt-leb (t .form .next) (a .y) (rw (← h .leaves .form .next) (e2 .if2 .left)),
+      lt-leb (t .form .next) (a .y) l,
       tested (e3 .before .no-block .ensures .1 _ (t .form) (seen h)) (e3 .if3 .left),
-      eq-eqb (t .form .info (a .y) .type) (type-of (t .graph) (a .x)) (tested (e4 .before .before .value-type .ensures _ (has-value h _ (rw (← h .leaves .form .next) (e2 .if2 .left)))) (e4 .if4 .left) ∙ e4 .before .variable-type .ensures _ (seen h)),
+      eq-eqb (t .form .info (a .y) .type) (type-of (t .graph) (a .x)) (tested (e4 .before .before .value-type .ensures .1 _ (has-value h _ l) (value-typed h _ l)) (e4 .if4 .left) ∙ e4 .before .variable-type .ensures _ (seen h)),
     )
     (accepted (c .accept .ensures) refl (changed h refl refl (seen h .cells) (c .before .before .before .record-def .ensures .own _ (has-def h _ _ (e1 .before .no-var .ensures .0 (e1 .if1 .left)) (e3 .before .no-block .ensures .0 (e3 .if3 .left))))))
 

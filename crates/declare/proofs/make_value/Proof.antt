@@ -1,6 +1,7 @@
 -- `make_value` meets its contract: the checks are the definition's; the value is counted, its block placed, and then it is the next one.
 -- e1 is the place past the first check, and so on. Assumes nothing.
 use borrow.Author.Needs.{needs}
+use native.Mathlib.Omega.{arith}
 use borrow.Author.Tests.{le-leb, lt-leb}
 use Prim.Native.Nat.{suc, _<_}
 use mathlib.Core.Path.{refl}
@@ -66,11 +67,15 @@ place-block-requires c κs =
 make-requires : tie.Need-make-requires
 make-requires c κs =
     let e4 = c .before .before .before .before .before .before .before .before .before in
-    let e1 = e4 .before .before .before .before .before .before in
+    let e2 = e4 .before .before .before .before .before in
+    let e1 = e2 .before in
     let p = e1 .before .before .before .before .pre in
     let h = p .1 in
     let room : p .0 .form .makes < limits .made = rw (← e4 .before .made-count .ensures (p .0 .form) (cells h)) (e4 .if4 .left) in
-    (_, can-make h room _ (c .before .before .before .place-block .ensures _ (can-place h (with-makes (p .0 .form) (suc (p .0 .form .makes))) refl (c .before .before .before .before .before .before .before .count-made .ensures _ (can-count h room)) _ (e1 .before .no-block .ensures .0 (e1 .if1 .left)))))
+    let b = e1 .before .no-block .ensures .0 (e1 .if1 .left) in (
+      (_, can-make h room _ (c .before .before .before .place-block .ensures _ (can-place h (with-makes (p .0 .form) (suc (p .0 .form .makes))) refl (c .before .before .before .before .before .before .before .count-made .ensures _ (can-count h room)) _ b))),
+      record { type = omega (arith, e2 .if2 .left); sort = omega arith; block = b },
+    )
 
 returns-5 : tie.Need-returns-5
 returns-5 c =

@@ -1,6 +1,7 @@
 -- `emit_zero` meets its contract: the block is placed, the call logged, and the next value made, in the definition's order.
 -- Assumes nothing.
 use borrow.Author.Needs.{needs}
+use native.Mathlib.Omega.{arith}
 use mathlib.Core.Path.{refl}
 use Rattle.settle.proofs.Settles.{zero-type, zero-place, zero-log, zero-make, zero-made}
 use Rattle.settle.proofs.emit_zero.Statement.{statement}
@@ -17,11 +18,15 @@ log-zero-requires c κs =
     (_, zero-log _ _ _ _ _ (c .before .before .before .before .before .before .before .before .pre .1) _ (c .before .before .before .place-block .ensures))
 
 make-requires : tie.Need-make-requires
-make-requires c κs = (
-  _,
-  zero-make _ _ _ _ _ (c .before .before .before .before .before .before .before .before .before .before .before .before .pre .1) _
-      (c .before .before .before .before .before .before .before .place-block .ensures) _ (c .before .before .before .log-zero .ensures),
-)
+make-requires c κs =
+    let p = c .before .before .before .before .before .before .before .before .before .before .before .before .pre in (
+      (
+        _,
+        zero-make _ _ _ _ _ (p .1) _ (c .before .before .before .before .before .before .before .place-block .ensures) _
+            (c .before .before .before .log-zero .ensures),
+      ),
+      record { type = c .before .before .before .before .before .before .before .before .before .value-type .ensures .0; sort = omega arith; block = p .1 .known },
+    )
 
 returns : tie.Need-returns
 returns c = (
@@ -29,7 +34,7 @@ returns c = (
   λ s h. zero-made _ _ _ _ s h _
       (c .before .before .before .before .before .before .before .before .before .before .place-block .ensures) _
       (c .before .before .before .before .before .before .log-zero .ensures) _ _ _
-      (c .before .before .before .before .before .before .before .before .before .before .before .before .value-type .ensures) (c .before .before .make .ensures .1)
+      (c .before .before .before .before .before .before .before .before .before .before .before .before .value-type .ensures .1) (c .before .before .make .ensures .1)
       refl,
 )
 

@@ -1,12 +1,12 @@
 -- `run_state_machine` meets its contract. The loop's invariant: the cells show a configuration from which the run ends as it is to.
 -- The measure is what is scheduled, and what could still be: each turn lowers it.
 -- Assumes nothing.
-use borrow.Author.Needs.{needs}
 use Prim.Native.Nat.{_+_}
 use mathlib.Core.Path.{_≡_, refl, _∙_}
 use mathlib.Core.List.{[]}
 use lib.ListN.{length}
-use Rattle.ssa.proofs.Runs.{to-come, Running, runs-start, turn-can, runs-next, run-falls, take-can, ran}
+use Rattle.ssa.proofs.Runs.{to-come, Running, runs-start, turn-can, runs-next, run-falls, take-can, one-held, ran}
+use borrow.Author.Needs.{needs}
 use Rattle.ssa.proofs.run_state_machine.Statement.{statement}
 use Rattle.ssa.proofs.run_state_machine.Tie as tie
 
@@ -31,21 +31,21 @@ loop-again c = (c .before .before .before .before .step .kept .1 .0 ∙ c .befor
 result-requires : tie.Need-result-requires Inv-loop μ-loop
 result-requires c κs = (([], _, take-can (c .before .before .before .loop .inv .2) (c .before .before .before .before .before .before .before .pre .4) (c .before .if1 .left)), search needs)
 
-drop-results-requires : tie.Need-drop-results-requires Inv-loop μ-loop
-drop-results-requires c κs = ([], _, take-can (c .before .before .before .before .before .loop .inv .2) (c .before .before .before .before .before .before .before .before .before .pre .4) (c .before .before .before .if1 .left))
+pop-results-requires : tie.Need-pop-results-requires Inv-loop μ-loop
+pop-results-requires c κs = one-held (c .before .before .before .before .loop .inv .2) (c .before .before .before .before .before .before .before .before .pre .4) (c .before .before .if1 .left)
 
 same-length : tie.Need-same-length Inv-loop μ-loop
-same-length c = c .before .before .before .before .before .before .before .before .loop .inv .0
+same-length c = c .before .before .before .before .before .loop .inv .0
 
 same-length-2 : tie.Need-same-length-2 Inv-loop μ-loop
-same-length-2 c = c .before .before .drop-results .kept .0 ∙ c .before .before .before .before .before .before .before .before .loop .inv .1
+same-length-2 c = c .before .before .before .before .before .loop .inv .1
 
 returns : tie.Need-returns Inv-loop μ-loop
-returns c = λ g k x s h. ran (c .before .before .before .before .before .before .before .before .loop .inv .2) h (c .before .before .before .before .before .before .if1 .left) (c .before .before .before .before .result .ensures) (c .before .before .drop-results .ensures) _ refl refl
+returns c = λ g k x s h. ran (c .before .before .before .before .before .loop .inv .2) h (c .before .before .before .if1 .left) (c .before .result .ensures) _ refl (c .pop-results .ensures)
 
 pub run-state-machine-spec : {M : Type 1} → statement M
 run-state-machine-spec =
     tie.close
     (tie.spec
-    Inv-loop μ-loop loop-holds step-requires loop-less loop-again result-requires drop-results-requires same-length
+    Inv-loop μ-loop loop-holds step-requires loop-less loop-again result-requires pop-results-requires same-length
     same-length-2 returns)

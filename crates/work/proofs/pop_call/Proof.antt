@@ -1,14 +1,9 @@
--- `pop_call` meets its contract: the call read from the top's two cells is the one scheduled last, and zeroing them leaves the others.
+-- `pop_call` meets its contract: the call read from the top's two cells is the one scheduled last, and the others stand below it.
 -- Assumes nothing.
-use borrow.Author.Needs.{needs}
-use native.Mathlib.Omega.{arith}
-use lib.ListN.{length-set}
 use Rattle.work.proofs.Pops.{call-look, call-finish, call-left}
+use borrow.Author.Needs.{needs}
 use Rattle.work.proofs.pop_call.Statement.{statement}
 use Rattle.work.proofs.pop_call.Tie as tie
-
-slice-write-work-2 : tie.Need-slice-write-work-2
-slice-write-work-2 c = simp length-set (omega arith)
 
 returns : tie.Need-returns
 returns c = (c .before .pop-call .ensures, λ q ts rs p. (call-look _ _ q ts rs p (c .if1 .taken), call-left _ _ q ts rs p))
@@ -20,7 +15,5 @@ pub pop-call-spec : {M : Type 1} → statement M
 pop-call-spec =
     tie.close
     (tie.spec
-    (λ c. search needs) (λ c. search needs) (λ c. search needs) (λ c. search needs) (λ c. search needs) (λ c. search needs)
-    (λ c. search needs) (λ c. search needs) (λ c. search needs) (λ c. search needs) (λ c. search needs) (λ c. search needs)
-    (λ c. search needs) slice-write-work-2 (λ c κs. search needs) (λ c. search needs) returns (λ c. search needs)
-    (λ c. search needs) returns-2)
+    (λ c. search needs) (λ c. search needs) (λ c. search needs) (λ c. search needs) (λ c. search needs)
+    (λ c. search needs) (λ c. search needs) (λ c κs. search needs) returns (λ c. search needs) returns-2)

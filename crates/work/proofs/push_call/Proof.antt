@@ -1,6 +1,5 @@
 -- `push_call` meets its contract: the two cells above the top hold the call.
 -- Assumes nothing.
-use borrow.Author.Needs.{needs}
 use native.Mathlib.Numerals.{add-one}
 use native.Mathlib.Omega.{arith}
 use mathlib.Core.Path.{subst}
@@ -8,6 +7,7 @@ use lib.ListN.{length-set}
 use Rattle.meaning.specs.Machine.{look, finish}
 use Rattle.layout.proofs.Stacks.{stacks-call}
 use Rattle.layout.specs.Counts.{Small-call}
+use borrow.Author.Needs.{needs}
 use Rattle.work.proofs.push_call.Statement.{statement}
 use Rattle.work.proofs.push_call.Tie as tie
 
@@ -15,7 +15,7 @@ slice-write-work-2 : tie.Need-slice-write-work-2
 slice-write-work-2 c = simp length-set (omega arith)
 
 add-work-3 : tie.Need-add-work-3
-add-work-3 c = omega (arith, subst Small-call (c .before .before .call2 .given .1) (c .before .before .before .before .before .before .pre .1))
+add-work-3 c = omega (arith, subst Small-call (c .before .before .call2 .given .1) (c .before .before .before .before .before .pre .1))
 
 slice-write-work-4 : tie.Need-slice-write-work-4
 slice-write-work-4 c = simp length-set (omega arith)
@@ -30,7 +30,7 @@ pub push-call-spec : {M : Type 1} → statement M
 push-call-spec =
     tie.close
     (tie.spec
-    (λ c. search needs) (λ c. search needs) (λ c. search needs) (λ c. search needs) (λ c. search needs) (λ c. search needs)
+    (λ c. search needs) (λ c. search needs) (λ c. search needs) (λ c. search needs) (λ c. search needs)
     (λ c. search needs) slice-write-work-2 (λ c κs. search needs) (λ c. search needs) add-work-3 (λ c. search needs)
     (λ c. search needs) (λ c. search needs) (λ c. search needs) (λ c. search needs) slice-write-work-4
     (λ c κs. search needs) (λ c. search needs) returns (λ c. search needs) returns-2)

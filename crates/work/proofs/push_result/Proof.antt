@@ -1,7 +1,7 @@
 -- `push_result` meets its contract: the cell above the top takes the value.
 -- Assumes nothing.
-use borrow.Author.Needs.{needs}
 use Rattle.layout.proofs.Stacks.{stacks-result}
+use borrow.Author.Needs.{needs}
 use Rattle.work.proofs.push_result.Statement.{statement}
 use Rattle.work.proofs.push_result.Tie as tie
 
@@ -12,5 +12,4 @@ pub push-result-spec : {M : Type 1} → statement M
 push-result-spec =
     tie.close
     (tie.spec
-    (λ c. search needs) (λ c. search needs) (λ c. search needs) (λ c. search needs) (λ c κs. search needs)
-    (λ c. search needs) returns)
+    (λ c. search needs) (λ c. search needs) (λ c. search needs) (λ c κs. search needs) (λ c. search needs) returns)

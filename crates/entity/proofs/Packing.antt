@@ -1,0 +1,30 @@
+-- The parts of a cell: any cell is its parts packed, and two packings agree only in equal parts. For a cell is a number by its digits: each part is below
+-- its room, and the block stands above them all.
+-- Assumes nothing.
+use Prim.Native.Nat.{ℕ, _/_, _%_, _<_}
+use mathlib.Core.Path.{_≡_}
+use native.Mathlib.Omega.{arith}
+use Rattle.entity.specs.declared.Described.{Described}
+use Rattle.entity.specs.Described.{type-room, sort-room, mark-room, packed, Parts}
+
+-- what `%` and `/` take from a cell are its parts
+pub parts : (cell : ℕ) (d : Described) → d .ty ≡ cell % type-room → d .sort ≡ cell / type-room % sort-room → d .block .0 ≡ cell / type-room / sort-room / mark-room
+    → Parts cell d
+parts cell d t s b = record {
+  type = omega arith;
+  sort = omega arith;
+  mark = cell / type-room / sort-room % mark-room;
+  small = omega arith;
+  whole = omega arith;
+}
+
+module _ (ty k m b ty′ k′ m′ b′ : ℕ) (t : ty < type-room) (t′ : ty′ < type-room) (e : packed ty k m b ≡ packed ty′ k′ m′ b′) where
+  pub packed-type : ty ≡ ty′
+  packed-type = omega arith
+
+  module _ (s : k < sort-room) (s′ : k′ < sort-room) where
+    pub packed-sort : k ≡ k′
+    packed-sort = omega arith
+
+    pub packed-block : m < mark-room → m′ < mark-room → b ≡ b′
+    packed-block o o′ = omega arith
