@@ -34,7 +34,7 @@ fn values(row: &[u32]) -> String {
 }
 
 /// What docs/RULES.md says of the text, taken literally; nothing if the tables can't be drawn.
-fn due_text(graph: &[u32], form: &[u32]) -> Option<String> {
+pub fn due_text(graph: &[u32], form: &[u32]) -> Option<String> {
     let (blocks, count) = (graph[BLOCK_COUNT], form[VALUE_COUNT]);
     if blocks as usize > BLOCKS || count as usize > VALUE_ROOM {
         return None;

@@ -128,10 +128,10 @@ fn put_branches(out: &mut [u8], at: usize, graph: &[u32], form: &[u32]) -> usize
 {
     let blocks = graph[layout::BLOCK_COUNT];
     let mut a = at;
-    let mut b: u32 = 0;
-    while b < blocks {
-        a = put_branch(out, a, graph, form, Branch(b));
-        b += 1;
+    let mut p: u32 = 0;
+    while p < blocks {
+        a = put_branch(out, a, graph, form, Branch(p));
+        p += 1;
     }
     a
 }

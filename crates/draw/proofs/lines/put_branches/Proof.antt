@@ -15,12 +15,12 @@ use Rattle.draw.proofs.lines.put_branches.Statement.{statement}
 use Rattle.draw.proofs.lines.put_branches.Tie as tie
 
 abbrev Inv-loop : tie.InvT-loop
-Inv-loop out₀ at graph form blocks a₀ b₀ out a b =
-    (b ≤ blocks) × Wrote out₀ at (each (edge-lines (seen graph form)) (upFrom 0 b)) out a × (a ≤ at + b * (limits .dests * line-most))
+Inv-loop out₀ at graph form blocks a₀ p₀ out a p =
+    (p ≤ blocks) × Wrote out₀ at (each (edge-lines (seen graph form)) (upFrom 0 p)) out a × (a ≤ at + p * (limits .dests * line-most))
     × (length out ≡ length out₀)
 
 abbrev μ-loop : tie.MeasureT-loop
-μ-loop out₀ at graph form blocks a₀ b₀ out a b = blocks - b
+μ-loop out₀ at graph form blocks a₀ p₀ out a p = blocks - p
 
 loop-holds : tie.Need-loop-holds Inv-loop μ-loop
 unfolding each
