@@ -102,6 +102,7 @@ impl Both {
 #[cfg(test)]
 mod tests {
     use super::*;
+    use sangvireb::raw::{ARG_ROWS, DEFS, PARAM_ROW};
     use lists::lent::TABLES;
 
     /// The difference when this cell of this table is changed after a session.
@@ -128,9 +129,10 @@ mod tests {
 
     #[test]
     fn a_difference_names_its_cell() {
-        let named = changed(3, |_| 65_733).expect("it differs");
-        assert_eq!(named, "form cell 65733: last definitions of variable 0, block 0: the oracle has 1, the library 513");
-        assert_eq!(cells::name(3, 69_829 + 65 * 13 + 2), "form cell 70676: arguments of branch 1, destination 5, entry 1");
+        let named = changed(3, |_| DEFS).expect("it differs");
+        assert_eq!(named, format!("form cell {DEFS}: last definitions of variable 0, block 0: the oracle has 1, the library 513"));
+        let argument = ARG_ROWS + PARAM_ROW * 13 + 2;
+        assert_eq!(cells::name(3, argument), format!("form cell {argument}: arguments of branch 1, destination 5, entry 1"));
     }
 
     #[test]
