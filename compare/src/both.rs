@@ -102,7 +102,6 @@ impl Both {
 #[cfg(test)]
 mod tests {
     use super::*;
-    use sangvireb::raw::{ARG_ROWS, DEFS, PARAM_ROW};
     use lists::lent::TABLES;
     use sangvireb::raw::{ARG_ROWS, DEFS, PARAM_ROW};
 
