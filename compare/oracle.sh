@@ -33,7 +33,7 @@ need_oracle() {
 The oracle is not at hand, and this command compares with it. It is a folder of its own with a script setup.sh, which builds the crate's ssa.rs
 (cranelift-frontend 0.137.1) over cranelift-codegen 0.123.13 and its driver; it is handed out beside this repository and not with it.
   looked for: $oracle/setup.sh (--oracle DIR names another place), $built (--built DIR)
-  without it: the gate replays the oracle's stored answers (rt check sangvireb), and compare/run walk, hostile and memcheck need the library alone
+  without it: the gate replays the oracle's stored answers (rt check sangvireb), and compare/run walk, draw, hostile and memcheck need the library alone
 TEXT
         exit 2
     fi

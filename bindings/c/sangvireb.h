@@ -1,5 +1,5 @@
 /* The public calls of Sangvireb, for C and C++. Link target/staticlib/libexports.a, which `rt staticlib exports` writes; README.md has the command.
- * What each call answers and leaves is proved in crates/session, crates/alias, crates/reader and crates/exports; docs/RULES.md says it in words.
+ * What each call answers and leaves is proved in crates/session, crates/alias, crates/reader, crates/draw and crates/exports; docs/RULES.md says it in words.
  *
  * A list is a pointer and a length. What a call is lent must be there for the call: as many cells as its length says, and no cell in two lists,
  * neither in two of those that are changed nor in one that is changed and one that is read. A list of length 0 may be NULL.
@@ -114,6 +114,12 @@ enum {
     SANGVIREB_NO_END = 14
 };
 
+/* Codes of a drawing, beside 0 and SANGVIREB_SHORT for a table shorter than its need. */
+enum {
+    SANGVIREB_NO_ROOM = 15,     /* the buffer is shorter than the text */
+    SANGVIREB_NOT_DRAWABLE = 16 /* a count is past its limit, or a number not below its count */
+};
+
 /* Runs the calls kinds[i], xs[i], ys[i], zs[i] in turn, from the empty session. */
 uint32_t sangvireb_session(const uint32_t *kinds, size_t kinds_len, const uint32_t *xs, size_t xs_len,
                            const uint32_t *ys, size_t ys_len, const uint32_t *zs, size_t zs_len,
@@ -142,6 +148,16 @@ sangvireb_row sangvireb_params(const uint32_t *params, size_t params_len, uint32
 
 /* The arguments of a branch's destination by its place. Lent is the table of arguments: the SANGVIREB_ARG_CELLS cells from SANGVIREB_ARG_ROWS on. */
 sangvireb_row sangvireb_args(const uint32_t *args, size_t args_len, uint32_t branch, uint32_t place);
+
+typedef struct {
+    uint32_t code;
+    size_t length;
+} sangvireb_drawn;
+
+/* Writes finished tables, whatever they hold, as Graphviz's DOT into the buffer and answers the text's length; no NUL is written. With any code
+ * but 0 the length is 0 and the buffer stays as it was. */
+sangvireb_drawn sangvireb_draw(const uint32_t *graph, size_t graph_len, const uint32_t *form, size_t form_len, char *buffer,
+                               size_t buffer_len);
 
 /* What the linked library was built for, by these places; 0 for any other place. */
 enum {

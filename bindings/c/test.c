@@ -1,4 +1,5 @@
-/* Two branches give a reading different values; after the join a parameter stands for it. Then the refusals of a whole session, rows and resolving. */
+/* Two branches give a reading different values; after the join a parameter stands for it, and is drawn. Then the refusals of a whole session, rows and
+ * resolving. */
 #include "sangvireb.h"
 #include <stdio.h>
 #include <string.h>
@@ -65,6 +66,25 @@ int main(void) {
     expect(row.code == SANGVIREB_ABSENT && row.length == 0, "a place past the limit gets 6, though the table goes on");
     expect(work[0] == 0 && work[SANGVIREB_WORK_NEED - 1] == 0, "work cells end as 0");
     expect(form[SANGVIREB_FORM_NEED] == 0xa5a5a5a5, "cells past the need keep what they held");
+
+    static const char text[] = "digraph f {\n"
+                               "b0 [label=\"b0()\"];\nb1 [label=\"b1()\"];\nb2 [label=\"b2()\"];\nb3 [label=\"b3(v2)\"];\n"
+                               "b0 -> b1 [label=\"\"];\nb0 -> b2 [label=\"\"];\nb1 -> b3 [label=\"v0\"];\nb2 -> b3 [label=\"v1\"];\n"
+                               "}\n";
+    enum { LONG = sizeof text - 1 };
+    char buffer[LONG + 1];
+    memset(buffer, '?', sizeof buffer);
+    sangvireb_drawn d = sangvireb_draw(graph, SANGVIREB_GRAPH_NEED - 1, form, SANGVIREB_FORM_NEED, buffer, sizeof buffer);
+    expect(d.code == SANGVIREB_SHORT && d.length == 0, "a graph one cell short is not drawn");
+    form[SANGVIREB_VALUE_COUNT] = 2;
+    d = sangvireb_draw(graph, SANGVIREB_GRAPH_NEED, form, SANGVIREB_FORM_NEED, buffer, 0);
+    expect(d.code == SANGVIREB_NOT_DRAWABLE && d.length == 0, "a parameter not below the count of values gets 16, before the buffer is looked at");
+    form[SANGVIREB_VALUE_COUNT] = 3;
+    d = sangvireb_draw(graph, SANGVIREB_GRAPH_NEED, form, SANGVIREB_FORM_NEED, buffer, LONG - 1);
+    expect(d.code == SANGVIREB_NO_ROOM && d.length == 0 && buffer[0] == '?', "a buffer one byte short gets 15 and is untouched");
+    d = sangvireb_draw(graph, SANGVIREB_GRAPH_NEED, form, SANGVIREB_FORM_NEED, buffer, sizeof buffer);
+    expect(d.code == 0 && d.length == LONG && memcmp(buffer, text, LONG) == 0, "the picture is drawn");
+    expect(buffer[LONG] == '?', "bytes past the text keep what they held");
 
     r = sangvireb_session(NULL, 0, NULL, 0, NULL, 0, NULL, 0, NULL, 0, NULL, 0, graph, SANGVIREB_GRAPH_NEED, form, SANGVIREB_FORM_NEED, work,
                           SANGVIREB_WORK_NEED);

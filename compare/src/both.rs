@@ -102,8 +102,8 @@ impl Both {
 #[cfg(test)]
 mod tests {
     use super::*;
-    use sangvireb::raw::{ARG_ROWS, DEFS, PARAM_ROW};
     use lists::lent::TABLES;
+    use sangvireb::raw::{ARG_ROWS, DEFS, PARAM_ROW};
 
     /// The difference when this cell of this table is changed after a session.
     fn changed(table: usize, cell: impl Fn(usize) -> usize + 'static) -> Option<String> {

@@ -34,7 +34,7 @@ fn main() -> ExitCode {
         "needed" => needed::run(),
         "stored" => {
             let root = Path::new(env!("CARGO_MANIFEST_DIR")).parent().expect("compare stands in the repository");
-            stored::run(root, &root.join("crates/sangvireb"), words.number("--seed", 1))
+            stored::run(root, words.number("--seed", 1))
         }
         "small" => small::run(words.text("--part")),
         _ => {

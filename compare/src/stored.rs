@@ -1,7 +1,9 @@
-//! The lists that the gate replays, with the oracle's answers to them: the examples, a list for each limit, and some of every shape.
+//! The lists that the gate replays, with the oracle's answers to them: the examples, a list for each limit, and some of every shape; and the pictures of
+//! the examples.
 use crate::both::Both;
 use crate::figures::Figures;
 use crate::report::report;
+use lists::drawing::due_text;
 use lists::rng::Rng;
 use lists::shapes::{SHAPES, Shape};
 use lists::{Call, MAX_CALLS, limits, text};
@@ -21,10 +23,13 @@ struct Group {
     lists: Vec<Vec<Call>>,
 }
 
-/// Writes the program's files `stdin` and `stdout` into a folder, and `names`: a line for each group, with its name and how many lists it has.
-pub fn run(root: &Path, into: &Path, seed: u64) -> ExitCode {
+/// Writes the program's files `stdin` and `stdout`, and `names`: a line for each group, with its name and how many lists it has; and those of the
+/// program that draws.
+pub fn run(root: &Path, seed: u64) -> ExitCode {
+    let into = root.join("crates/sangvireb");
     let mut both = Both::new(seed);
     let mut groups = examples(&root.join("examples")).expect("the examples can be read");
+    pictures(&groups, &mut both, &root.join("crates/picture"));
     groups.push(Group { name: Shape::Limits.name(), lists: limits::fixed() });
     groups.extend(SHAPES.iter().filter(|&&shape| shape != Shape::Limits).map(|&shape| some(shape, seed, &mut both)));
     let (mut calls, mut answers, mut figures) = (String::new(), String::new(), Figures::default());
@@ -43,6 +48,20 @@ pub fn run(root: &Path, into: &Path, seed: u64) -> ExitCode {
         fs::write(into.join(name), content).expect("the file can be written");
     }
     ExitCode::SUCCESS
+}
+
+/// The examples, and the text that docs/RULES.md asks for the tables that the oracle has.
+fn pictures(examples: &[Group], both: &mut Both, into: &Path) {
+    let (mut calls, mut drawn) = (String::new(), String::new());
+    for list in examples.iter().flat_map(|group| &group.lists) {
+        if both.difference(list).is_none() {
+            calls += &text(list);
+            drawn += &due_text(&both.expected.graph, &both.expected.form).expect("the oracle's tables can be drawn");
+        }
+    }
+    for (name, content) in [("stdin", calls), ("stdout", drawn)] {
+        fs::write(into.join(name), content).expect("the file can be written");
+    }
 }
 
 /// What the oracle prints of a list. A list that is refused whole never reaches the crate: docs/RULES.md alone says what it gets.

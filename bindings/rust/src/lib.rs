@@ -3,6 +3,7 @@
 
 mod builder;
 mod call;
+mod draw;
 mod explain;
 mod library;
 mod list;

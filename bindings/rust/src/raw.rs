@@ -92,6 +92,11 @@ pub const SHORT: u32 = 1;
 /// Refused whole: the call lists differ in length or are too long.
 pub const UNFIT: u32 = 2;
 
+/// Drawing: the buffer is shorter than the text.
+pub const NO_ROOM: u32 = 15;
+/// Drawing: a count in the tables is past its limit, or a number is not below its count.
+pub const NOT_DRAWABLE: u32 = 16;
+
 /// What the library tells of itself, by the number to ask [`limit`] for: in words, and what this package was built for.
 pub const TOLD: [(&str, u32); 12] = [
     ("version of its calls", VERSION),
@@ -122,6 +127,12 @@ struct Span {
     length: usize,
 }
 
+#[repr(C)]
+struct Drawn {
+    code: u32,
+    length: usize,
+}
+
 // As in bindings/c/sangvireb.h: a list is a pointer and a length.
 extern "C" {
     fn sangvireb_session(
@@ -147,6 +158,14 @@ extern "C" {
     fn sangvireb_resolve(targets: *const u32, targets_len: usize, value: u32) -> Answer;
     fn sangvireb_params(params: *const u32, params_len: usize, block: u32) -> Span;
     fn sangvireb_args(args: *const u32, args_len: usize, branch: u32, place: u32) -> Span;
+    fn sangvireb_draw(
+        graph: *const u32,
+        graph_len: usize,
+        form: *const u32,
+        form_len: usize,
+        buffer: *mut u8,
+        buffer_len: usize,
+    ) -> Drawn;
     fn sangvireb_limit(which: u32) -> u32;
 }
 
@@ -247,6 +266,21 @@ pub fn row<'a>(params: &'a [u32], args: &'a [u32], asked: Asked) -> &'a [u32] {
 /// If the library that is linked was built for other limits ([`check`](crate::check)).
 pub fn row_code(params: &[u32], args: &[u32], asked: Asked) -> u32 {
     locate(params, args, asked).1.code
+}
+
+/// Writes finished tables, whatever they hold, into the buffer, as text in Graphviz's language DOT. Answers a code and a length: 0 and the
+/// text's; else 0 bytes with [`SHORT`] for a table shorter than its need, then [`NOT_DRAWABLE`], then [`NO_ROOM`], and the buffer stays as it
+/// was. Bytes past the text keep what they held.
+///
+/// # Panics
+///
+/// If the library that is linked was built for other limits ([`check`](crate::check)).
+pub fn draw(graph: &[u32], form: &[u32], buffer: &mut [u8]) -> (u32, usize) {
+    library::must_fit();
+    // SAFETY: the proved contract has no precondition: any lengths, any contents. Each pair is a slice's own pointer and length; the borrow
+    // checker keeps the buffer, which alone is written, apart from the tables.
+    let drawn = unsafe { sangvireb_draw(graph.as_ptr(), graph.len(), form.as_ptr(), form.len(), buffer.as_mut_ptr(), buffer.len()) };
+    (drawn.code, drawn.length)
 }
 
 /// What the library tells of itself: `which` counts the rows of [`TOLD`]; past them it answers 0.

@@ -60,7 +60,7 @@ fn the_constants_are_the_headers() {
         VERSION BLOCKS VARIABLES DESTS MADE CALLS GRAPH_NEED FORM_NEED WORK_NEED
         BLOCK_COUNT TYPES BRANCHES SEALED DEST_ROWS DEST_ROW PRED_ROWS PRED_ROW
         VALUE_COUNT MADE_COUNT TARGET DESCRIBED PLACED ZERO_CALLS ZERO_BLOCKS PARAM_ROWS PENDING_ROWS DEFS ARG_ROWS PARAM_ROW PARAM_CELLS ARG_CELLS
-        RUN SHORT UNFIT
+        RUN SHORT UNFIT NO_ROOM NOT_DRAWABLE
     );
     let refusals = Refusal::ALL.map(|refusal| (in_c(refusal), refusal.code() as usize));
     for (name, number) in ours.into_iter().chain(refusals) {

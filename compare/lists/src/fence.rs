@@ -1,5 +1,6 @@
 //! Cells to lend with nothing round them: closed pages on both sides, or a piece of the heap of exactly their size, which memcheck watches.
 use std::ffi::c_void;
+use std::marker::PhantomData;
 use std::ptr::{null_mut, slice_from_raw_parts_mut};
 
 unsafe extern "C" {
@@ -12,7 +13,6 @@ const CLOSED: i32 = 0;
 const READ_AND_WRITE: i32 = 3;
 const PRIVATE_ANONYMOUS: i32 = 0x22;
 const PAGE: usize = 4096;
-const CELLS_A_PAGE: usize = PAGE / size_of::<u32>();
 
 /// At which end of its open pages a slice lies; there it touches the closed page.
 #[derive(Clone, Copy, PartialEq, Debug)]
@@ -21,28 +21,35 @@ pub enum Side {
     End,
 }
 
+/// A number in a cell, any of whose bits may be set: so whatever stands in memory is one.
+pub trait Cell: Copy + PartialEq {}
+impl Cell for u8 {}
+impl Cell for u32 {}
+
 /// Open pages between two closed ones.
-pub struct Fence {
+pub struct Fence<T> {
     map: *mut c_void,
     bytes: usize,
     open: usize,
+    cells: PhantomData<T>,
 }
 
-impl Fence {
+impl<T: Cell> Fence<T> {
     /// Room for at least so many cells.
-    pub fn new(cells: usize) -> Fence {
-        let pages = cells.div_ceil(CELLS_A_PAGE).max(1);
+    pub fn new(cells: usize) -> Fence<T> {
+        let a_page = PAGE / size_of::<T>();
+        let pages = cells.div_ceil(a_page).max(1);
         let bytes = (pages + 2) * PAGE;
         // SAFETY: a new private map that nobody else knows; its first and last page stay closed.
         let map = unsafe { mmap(null_mut(), bytes, CLOSED, PRIVATE_ANONYMOUS, -1, 0) };
         assert!(map as isize != -1, "no memory for a fence");
         let opened = unsafe { mprotect(map.byte_add(PAGE), pages * PAGE, READ_AND_WRITE) };
         assert_eq!(opened, 0, "the pages of a fence cannot be opened");
-        Fence { map, bytes, open: pages * CELLS_A_PAGE }
+        Fence { map, bytes, open: pages * a_page, cells: PhantomData }
     }
 
     /// All cells between the closed pages.
-    pub fn all(&mut self) -> &mut [u32] {
+    pub fn all(&mut self) -> &mut [T] {
         // SAFETY: the open pages belong to this fence alone, hold numbers of any value, and are borrowed with it.
         unsafe { &mut *slice_from_raw_parts_mut(self.map.byte_add(PAGE).cast(), self.open) }
     }
@@ -56,7 +63,7 @@ impl Fence {
     }
 }
 
-impl Drop for Fence {
+impl<T> Drop for Fence<T> {
     fn drop(&mut self) {
         // SAFETY: the map was made by `new` with this size, and no slice of it outlives the fence.
         unsafe { munmap(self.map, self.bytes) };
@@ -64,14 +71,14 @@ impl Drop for Fence {
 }
 
 /// Cells that are lent either way.
-pub enum Ground {
-    Fenced(Fence),
-    Heap(Box<[u32]>),
+pub enum Ground<T = u32> {
+    Fenced(Fence<T>),
+    Heap(Box<[T]>),
 }
 
-impl Ground {
+impl<T: Cell> Ground<T> {
     /// Reads the cell past one end of what it has, which must not go unnoticed.
-    pub fn overstep(&mut self, side: Side) -> u32 {
+    pub fn overstep(&mut self, side: Side) -> T {
         let all = match self {
             Ground::Fenced(fence) => fence.all(),
             Ground::Heap(piece) => piece,
@@ -81,12 +88,12 @@ impl Ground {
         unsafe { beyond.read_volatile() }
     }
 
-    pub fn new(heap: bool, most: usize) -> Ground {
-        if heap { Ground::Heap(Box::default()) } else { Ground::Fenced(Fence::new(most)) }
+    pub fn new(heap: bool, most: usize) -> Ground<T> {
+        if heap { Ground::Heap(Box::from([])) } else { Ground::Fenced(Fence::new(most)) }
     }
 
     /// Fills everything within the fence, then the slice itself.
-    pub fn fill(&mut self, cells: &[u32], around: u32, side: Side) {
+    pub fn fill(&mut self, cells: &[T], around: T, side: Side) {
         match self {
             Ground::Fenced(fence) => {
                 let range = fence.range(cells.len(), side);
@@ -97,7 +104,7 @@ impl Ground {
         }
     }
 
-    pub fn lend(&mut self, len: usize, side: Side) -> &mut [u32] {
+    pub fn lend(&mut self, len: usize, side: Side) -> &mut [T] {
         match self {
             Ground::Fenced(fence) => {
                 let range = fence.range(len, side);
@@ -108,7 +115,7 @@ impl Ground {
     }
 
     /// Do the cells beside the slice still hold what they were filled with?
-    pub fn kept_around(&mut self, len: usize, around: u32, side: Side) -> bool {
+    pub fn kept_around(&mut self, len: usize, around: T, side: Side) -> bool {
         match self {
             Ground::Fenced(fence) => {
                 let range = fence.range(len, side);

@@ -1,4 +1,5 @@
 //! Anything at all as calls, as lengths and as what the tables hold: the library answers as docs/RULES.md says and touches nothing that was not lent.
+use crate::drawing::Drawing;
 use crate::fence::{Ground, Side};
 use crate::lent::{TABLES, needs};
 use crate::progress::Progress;
@@ -14,7 +15,7 @@ use std::process::{Command, ExitCode};
 type Lists = [Vec<u32>; 9];
 
 /// How many cells more than its need a list has at most.
-const SPARE: usize = 64;
+pub const SPARE: usize = 64;
 const SIGSEGV: i32 = 11;
 
 struct Field {
@@ -59,7 +60,7 @@ fn calls(rng: &mut Rng) -> Vec<Call> {
 }
 
 /// A length at or near what it should be, now and then far from it.
-fn length(right: usize, rng: &mut Rng) -> usize {
+pub fn length(right: usize, rng: &mut Rng) -> usize {
     match rng.below(64) {
         0 => right.saturating_sub(1),
         1 => 0,
@@ -88,7 +89,7 @@ fn lists(calls: &[Call], rng: &mut Rng) -> Lists {
 }
 
 /// Any numbers, or one number everywhere.
-fn garbage(len: usize, rng: &mut Rng) -> Vec<u32> {
+pub fn garbage(len: usize, rng: &mut Rng) -> Vec<u32> {
     let (same, small) = (rng.any(), rng.chance(1, 3));
     match rng.below(4) {
         0 => vec![u32::MAX; len],
@@ -302,7 +303,7 @@ pub const OVERSTEP: &str = "overstep";
 
 pub fn overstep(side: Option<&str>, heap: bool) -> ExitCode {
     let side = if side == Some("start") { Side::Start } else { Side::End };
-    let mut ground = Ground::new(heap, 10);
+    let mut ground: Ground = Ground::new(heap, 10);
     ground.fill(&[7; 10], 7, side);
     println!("a read past the end found {}", ground.overstep(side));
     ExitCode::SUCCESS
@@ -324,13 +325,15 @@ pub fn run(rounds: u64, seed: u64, heap: bool) -> ExitCode {
         return ExitCode::FAILURE;
     }
     let mut field = Field::new(heap);
+    let mut drawing = Drawing::new(heap);
     let mut figures = Figures::default();
     let mut progress = Progress::new(rounds);
     for number in 0..rounds {
         let mut rng = Rng::nth(seed, number);
         let held = round(&mut field, &mut rng, &mut figures)
             .and_then(|()| resolve_round(&mut field, &mut rng, &mut figures))
-            .and_then(|()| row_round(&mut field, &mut rng, &mut figures));
+            .and_then(|()| row_round(&mut field, &mut rng, &mut figures))
+            .and_then(|()| drawing.round(&mut rng));
         if let Err(what) = held {
             println!("round {number} of seed {seed}: {what}");
             return ExitCode::FAILURE;
@@ -338,11 +341,11 @@ pub fn run(rounds: u64, seed: u64, heap: bool) -> ExitCode {
         progress.show(figures.rounds, figures.calls);
     }
     progress.end(figures.rounds, figures.calls);
-    summary(&figures, field.heap);
+    summary(&figures, &drawing, field.heap);
     ExitCode::SUCCESS
 }
 
-fn summary(figures: &Figures, heap: bool) {
+fn summary(figures: &Figures, drawing: &Drawing, heap: bool) {
     let [ran, short, unfit] = figures.sessions;
     let [ended, past, lost] = figures.resolved;
     let [full, empty, none] = figures.rows;
@@ -351,5 +354,6 @@ fn summary(figures: &Figures, heap: bool) {
     println!("{} rounds, {} calls; sessions that answered 0: {ran}, 1: {short}, 2: {unfit}", figures.rounds, figures.calls);
     println!("resolving answered 0: {ended}, 6: {past}, 14: {lost}");
     println!("rows with entries: {full}, empty: {empty}, not there: {none}");
+    println!("{drawing}");
     println!("nothing outside what was lent was touched, and every answer is as it must be");
 }

@@ -1,5 +1,7 @@
 //! Lists of calls: made at random, run by the library, shrunk, walked on paths. Needs nothing but the library.
+pub mod dot;
 pub mod draft;
+pub mod drawing;
 pub mod fence;
 pub mod fields;
 pub mod finished;
@@ -9,6 +11,7 @@ pub mod limits;
 pub mod manner;
 pub mod odd;
 pub mod path;
+pub mod pictures;
 pub mod progress;
 pub mod rng;
 pub mod shapes;

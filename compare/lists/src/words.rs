@@ -30,6 +30,12 @@ impl Words {
         self.0.get(at + 1).map(String::as_str)
     }
 
+    /// The words after the command that are neither names nor what follows one.
+    pub fn others(&self) -> Vec<&str> {
+        let named = |i: usize| self.0[i].starts_with("--") || self.0[i - 1].starts_with("--");
+        (1..self.0.len()).filter(|&i| !named(i)).map(|i| self.0[i].as_str()).collect()
+    }
+
     pub fn number(&self, name: &str, usual: u64) -> u64 {
         match self.text(name) {
             Some(text) => text.parse().unwrap_or_else(|_| self.wrong(name)),

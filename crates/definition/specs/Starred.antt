@@ -15,7 +15,7 @@ use Rattle.definition.specs.Session.{Call, session}
 use Rattle.definition.specs.Calls.{declare-var, define, use-var, drop-pred, seal, seal-all, blocks, sets, jumps, i32}
 use Rattle.definition.specs.Tables.{Tables, tables}
 
-pub cases : List (List Call)
+unfoldable pub cases : List (List Call)
 cases =
     -- A. Sealed block 0, use: value 0 is a parameter, aliased to zero 1; answer 1. A second use answers 0.
     (

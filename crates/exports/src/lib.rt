@@ -1,6 +1,7 @@
 // What C and Rust link: the public calls under names of their own.
 ghost use mathlib.Core.Path.{_≡_};
 ghost use Rattle.definition.specs.Resolve.{Resolved};
+ghost use Rattle.draw.specs.Draws.{Draws};
 ghost use Rattle.layout.specs.Outcome.{lent};
 ghost use Rattle.reader.specs.Rows.{Located};
 ghost use Rattle.reader.specs.declared.Asked.the-variants.{Params, Args};
@@ -42,6 +43,13 @@ const TOLD: [u32; 12] = [
 pub struct SangvirebAnswer {
     pub code: u32,
     pub number: u32,
+}
+
+// Code and length of a picture, as C sees them.
+#[repr(C)]
+pub struct SangvirebDrawn {
+    pub code: u32,
+    pub length: usize,
 }
 
 // A session over lent lists: crates/session says what it answers and leaves.
@@ -90,6 +98,18 @@ pub extern "C" fn sangvireb_args(args: &[u32], branch: u32, place: u32) -> Span
     ensures { λ r. ⌜ Located (now (args .entry)) (Args record { 0 = branch } place) (r .code) (r .start) (r .length) ⌝ }
 {
     reader::locate(args, Asked::Args(Branch(branch), place))
+}
+
+// Draws finished tables: crates/draw says what it answers and writes.
+#[no_mangle]
+pub extern "C" fn sangvireb_draw(graph: &[u32], form: &[u32], buffer: &mut [u8]) -> SangvirebDrawn
+    ensures { λ r. ⌜ Draws (now (graph .entry)) (now (form .entry)) (now (buffer .entry)) (now (buffer .exit)) (r .code) (r .length) ⌝ }
+{
+    let d = draw::draw(graph, form, buffer);
+    SangvirebDrawn {
+        code: d.code,
+        length: d.length,
+    }
 }
 
 // Tells a host what this library was built for. The places keep their meaning from version to version; a place past them gets 0.

@@ -73,15 +73,20 @@ fn missing(r: Reading) {
     say(b" calls are missing\n");
 }
 
+// Who tells, and of what.
+pub fn begin(who: &[u8], name: &[u8]) {
+    say(who);
+    say(b": ");
+    say(name);
+}
+
 // Nothing, if nothing is wrong.
 pub fn tell(who: &[u8], name: &[u8], r: Reading) {
     let l = r.line;
     if r.trouble == list::NONE {
         return;
     }
-    say(who);
-    say(b": ");
-    say(name);
+    begin(who, name);
     if r.trouble == list::SHORT {
         missing(r);
         return;

@@ -10,8 +10,9 @@ use native.Mathlib.Omega.{arith}
 use native.Mathlib.Nat.{not-suc-le-zero, le-of-suc-le-suc}
 use lib.Dec.{ltb}
 use borrow.Author.Tests.{ltb-true, ltb-false}
-use lib.ListN.{length, getD, set, length-append, length-set, List·getD-append}
-use lib.Seq.{getD-set-same, getD-set-other, getD-append-add, ext-getD}
+use borrow.Table.Elements.{take-le}
+use lib.ListN.{length, getD, set, take, length-append, length-set, List·getD-append}
+use lib.Seq.{getD-set-same, getD-set-other, getD-append-add, getD-take, ext-getD}
 use Rattle.meaning.proofs.Maps.{same?}
 use Rattle.layout.specs.Cells.{Table, blank, sum, base, line, render, Holds}
 
@@ -34,6 +35,13 @@ pub within : (sizes : List ℕ) (t j : ℕ) → j < getD sizes t 0 → base size
 within [] t j h = absurd (not-suc-le-zero h)
 within (n ∷ ns) zero j h = omega arith
 within (n ∷ ns) (suc t) j h = omega (arith, within ns t j h)
+
+-- cells whose first ones hold the tables hold them
+pub holds-more : (sizes l : List ℕ) (M : List Table) → Holds sizes (take (sum sizes) l) M → Holds sizes l M
+holds-more sizes l M h = record {
+  long = omega (arith, h .long, take-le (sum sizes) l);
+  at = λ t j lt. sym (getD-take (sum sizes) l (base sizes t + j) 0 (within sizes t j lt)) ∙ h .at t j lt;
+}
 
 -- ---- a change within one table
 

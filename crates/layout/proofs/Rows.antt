@@ -5,13 +5,13 @@ use mathlib.Core.Path.{_≡_, refl, sym, ap, _∙_, subst}
 use mathlib.Core.Logic.{_≢_, _⊎_, inl, inr}
 use mathlib.Core.List.{List, [], _∷_, _++_}
 use native.Mathlib.Omega.{arith}
-use lib.ListN.{length, getD, set, length-append, length-set, List·getD-append, List·getD-eq-default}
-use lib.Seq.{getD-set-same, getD-set-other, getD-append-seam}
+use lib.ListN.{length, getD, set, drop, length-append, length-drop, length-set, List·getD-append, List·getD-eq-default}
+use lib.Seq.{getD-set-same, getD-set-other, getD-append-seam, length-take-le, getD-take, getD-drop, ext-getD}
 use Rattle.entity.specs.Limits.{limits, zero-room}
 use Rattle.definition.specs.Base.{put}
 use Rattle.meaning.proofs.Maps.{same?, put-other, put-at}
 use Rattle.layout.specs.Cells.{Table, cell}
-use Rattle.layout.specs.Rows.{Row, Readable, Pushable, pushed}
+use Rattle.layout.specs.Rows.{Row, Readable, Pushable, entries, pushed}
 use Rattle.layout.proofs.Cells.{below?, Changed}
 
 -- ---- stores into the cells of a row
@@ -66,6 +66,12 @@ module _ (l : List ℕ) (a w : ℕ) (xs : List ℕ) (r : Row l a w xs) where
 
   pub row-entry : (i : ℕ) → i + 1 < w → getD l (a + 1 + i) 0 ≡ getD xs i 0
   row-entry i lt = let e : a + 1 + i ≡ a + suc i = omega arith in ap (λ (k : ℕ). getD l k 0) e ∙ r .at (suc i) (omega arith)
+
+  pub row-entries : entries l a ≡ xs
+  row-entries =
+      let long = length-take-le (getD l a 0) (drop (a + 1) l) (omega (arith, row-count, r .few, r .fits, length-drop (a + 1) l)) in
+      ext-getD 0 (entries l a) xs (long ∙ row-count)
+      (λ i lt. getD-take (getD l a 0) (drop (a + 1) l) i 0 (omega (arith, long)) ∙ getD-drop (a + 1) l i 0 ∙ row-entry i (omega (arith, long, row-count, r .few)))
 
   pub row-readable : length xs ≤ zero-room limits → Readable l a
   row-readable le = record { there = omega (arith, row-count, r .few, r .fits); few = omega (arith, row-count) }

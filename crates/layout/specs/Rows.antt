@@ -5,7 +5,7 @@ use mathlib.Core.Path.{_≡_}
 use mathlib.Core.Bool.{cond}
 use mathlib.Core.List.{List}
 use lib.Dec.{eqb}
-use lib.ListN.{length, getD, set}
+use lib.ListN.{length, getD, set, take, drop}
 use Rattle.entity.specs.Limits.{limits, zero-room}
 use Rattle.layout.specs.Cells.{cell}
 
@@ -24,6 +24,10 @@ pub record Readable (cells : List ℕ) (a : ℕ) : Type 0 where
 pub record Pushable (cells : List ℕ) (a : ℕ) : Type 0 where
   pub room : a + 1 + getD cells a 0 < length cells
   pub few : getD cells a 0 < zero-room limits
+
+-- its entries, as many as the count says
+abbrev pub entries : List ℕ → ℕ → List ℕ
+entries cells a = take (getD cells a 0) (drop (a + 1) cells)
 
 -- one entry more
 abbrev pub pushed : List ℕ → ℕ → ℕ → List ℕ

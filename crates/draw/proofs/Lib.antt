@@ -1,0 +1,7 @@
+pub mod Pieces
+pub mod Checks
+pub mod Rows
+pub mod Codes
+pub mod Determined
+pub mod Shown
+pub mod Cases

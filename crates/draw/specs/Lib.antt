@@ -1,0 +1,4 @@
+pub mod Text
+pub mod Seen
+pub mod Draws
+pub mod Wrote
