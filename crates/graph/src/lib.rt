@@ -240,7 +240,7 @@ pub fn declare_block_predecessor(graph: &mut [u32], block: Block, branch: Branch
     requires { ⌜ branch .0 < limits .blocks ⌝ }
     ensures { λ r. ⌜ ((g : Graph) → Can-declare-predecessor (now (graph .entry)) (block .0) (branch .0) g
         → Shown (now (graph .exit)) (with-declared (with-preds g (put (block .0) (g .preds (block .0) ∷ʳ branch .0) (g .preds)))
-            (put (branch .0) true (g .declared)))) ⌝ }
+        (put (branch .0) true (g .declared)))) ⌝ }
 {
     let at = preds_of(block);
     rows::push(graph, at, branch.0);

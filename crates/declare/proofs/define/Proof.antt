@@ -77,10 +77,24 @@ returns-4 c =
 -- the place past the types
 abbrev Typed : Type 0
 Typed =
-    lts.Else4
-    (no-var-reads.Asked, no-var-reads.Learnt, refuse-reads.Asked, refuse-reads.Learnt, no-block-reads.Asked, no-block-reads.Learnt,
-    value-type-reads.Asked, value-type-reads.Learnt, variable-type-reads.Asked, variable-type-reads.Learnt,
-    ever-declared-reads.Asked, ever-declared-reads.Learnt, record-def-reads.Asked, record-def-reads.Learnt, accept-reads.Asked, accept-reads.Learnt)
+    lts.Else4 (
+      no-var-reads.Asked,
+      no-var-reads.Learnt,
+      refuse-reads.Asked,
+      refuse-reads.Learnt,
+      no-block-reads.Asked,
+      no-block-reads.Learnt,
+      value-type-reads.Asked,
+      value-type-reads.Learnt,
+      variable-type-reads.Asked,
+      variable-type-reads.Learnt,
+      ever-declared-reads.Asked,
+      ever-declared-reads.Learnt,
+      record-def-reads.Asked,
+      record-def-reads.Learnt,
+      accept-reads.Asked,
+      accept-reads.Learnt,
+    )
     reads.Pre reads.Post
 
 -- there the mark alone decides
