@@ -1,7 +1,7 @@
 //! What a session is asked for: arguments and answers with aliases resolved, the zeros of a block, branches made whole.
 mod common;
 use common::{branch, builder, code, set, FIRST};
-use sangvireb::{Block, Branch, List, Refusal, Sort, Type, Value, Variable};
+use sangvireb::{Block, Branch, List, Refusal, SSABuilder, Sort, Type, Value, Variable};
 
 #[test]
 fn arguments_and_answers_resolved() {

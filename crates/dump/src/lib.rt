@@ -109,14 +109,7 @@ fn bits(out: &mut [u8], n: usize, in_words: bool, form: &[u32], i: usize) -> usi
 }
 
 // What value i is, or its bits.
-fn value(
-    out: &mut [u8],
-    n: usize,
-    in_words: bool,
-    form: &[u32],
-    i: usize,
-    which: usize,
-) -> usize {
+fn value(out: &mut [u8], n: usize, in_words: bool, form: &[u32], i: usize, which: usize) -> usize {
     if which == texts::BITS {
         return bits(out, n, in_words, form, i);
     }
