@@ -49,8 +49,8 @@ impl Named {
             Named::Use(NO_CALL) => Some("a list takes the answers of its own uses alone".into()),
             Named::Use(place) => not_a_use(session, place as usize),
             Named::Destination(branch, place) => {
-                let count = session.destinations(Branch(branch)).map_or(0, |ways| ways.len() as u32);
-                past(place, count, "destination", &format!("of {}", Branch(branch)))
+                let count = session.destinations(Branch(branch)).map_or(0, |ways| ways.len());
+                (place as usize >= count).then(|| format!("{} has no destination {place}; it has {count}", Branch(branch)))
             }
         }
     }
@@ -145,12 +145,11 @@ fn fixed_by(before: &Session, block: Block) -> String {
 fn none_left(before: &Session, branch: Branch, place: u32) -> Option<String> {
     let way = before.destinations(branch).ok()?.nth(place as usize)?;
     let count = before.caller_params(way.target).ok()?.len();
-    let those = match count {
-        0 => return Some(format!("{} has no parameter of the caller's", way.target)),
-        1 => "1 parameter".to_string(),
-        _ => format!("{count} parameters"),
-    };
-    Some(format!("{} has {those} of the caller's, and destination {place} has {} arguments", way.target, way.args.len()))
+    Some(match count {
+        0 => format!("{} has no parameter of the caller's", way.target),
+        1 => format!("{} has 1 parameter of the caller's, and destination {place} has its argument", way.target),
+        _ => format!("{} has {count} parameters of the caller's, and destination {place} has an argument for each", way.target),
+    })
 }
 
 fn declared_to(before: &Session, branch: Branch) -> String {
