@@ -10,6 +10,7 @@ use crate::rng::Rng;
 use crate::shapes::{Graph, SHAPES, Shape};
 use crate::shrink::shrink;
 use crate::text;
+use sangvireb::Sort;
 use std::process::ExitCode;
 
 const PATHS: u32 = 8;
@@ -22,7 +23,12 @@ struct Figures {
     paths: u64,
     blocks: u64,
     /// uses met, by the sort of the value to which the answer resolves
-    uses: [u64; 3],
+    uses: [u64; Sort::ALL.len()],
+    /// lists with parameters of the caller's, and arguments given for them
+    carrying: u64,
+    given: u64,
+    /// lists that give arguments of other blocks than the branching one
+    foreign: u64,
     aliases: u64,
     /// uses met of a variable that had received nothing, and those of them where it is a float
     unset: [u64; 2],
@@ -96,12 +102,15 @@ fn try_list(calls: &[Call], lent: &mut Lent, rng: &mut Rng, figures: &mut Figure
     let code = lent.run(calls, rng);
     assert_eq!(code, 0, "the list is run");
     let session = Finished::of(calls, lent);
-    if path::supposed(&session) != [true; 4] {
+    if !path::counted(&session) {
         figures.unfit += 1;
         return None;
     }
     figures.lists += 1;
     figures.calls += calls.len() as u64;
+    figures.foreign += u64::from(path::supposed(&session).contains(&false));
+    figures.carrying += u64::from((0..session.blocks()).any(|b| !session.own_params(b).is_empty()));
+    figures.given += session.accepted().filter(|(call, _)| call[0] == 16).count() as u64;
     breach(&session, rng, figures)
 }
 
@@ -133,10 +142,12 @@ pub fn run(lists: u64, seed: u64) -> ExitCode {
 }
 
 fn summary(figures: &Figures) {
-    let [made, params, zeros] = figures.uses;
-    println!("{} lists meet the four suppositions; {} more did not and were not walked", figures.lists, figures.unfit);
-    println!("{} paths through {} blocks, {} uses met on them", figures.paths, figures.blocks, made + params + zeros);
-    println!("answers resolve to a made value {made} times, a parameter {params}, a zero {zeros}; {} were aliases", figures.aliases);
+    let resolved: Vec<String> = Sort::ALL.iter().zip(figures.uses).map(|(sort, uses)| format!("{sort} {uses}")).collect();
+    println!("{} lists meet the suppositions; {} more did not and were not walked", figures.lists - figures.foreign, figures.unfit);
+    println!("{} of them have parameters of the caller's, with {} arguments given for them", figures.carrying, figures.given);
+    println!("{} more give only arguments from elsewhere than the branching block", figures.foreign);
+    println!("{} paths through {} blocks, {} uses met on them", figures.paths, figures.blocks, figures.uses.iter().sum::<u64>());
+    println!("sorts to which answers resolve: {}; {} were aliases", resolved.join(", "), figures.aliases);
     let [unset, floats] = figures.unset;
     println!("{unset} times the variable had received nothing, {floats} of them a float, whose bits are a quiet NaN's");
     println!("no breach");
