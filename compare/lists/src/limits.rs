@@ -195,7 +195,7 @@ fn arguments(rng: &mut Rng, own: usize) -> Vec<Call> {
     let sealed_first = rng.chance(1, 2);
     calls.extend(sealed_first.then_some([12, 0, 0, 0]));
     calls.extend((0..VARIABLES as u32).map(|v| [6, v, 3, 0]));
-    calls.push([12, 0, 0, 0]);
+    calls.extend([[12, 0, 0, 0], [15, 3, 2, 0]]);
     calls
 }
 
