@@ -53,11 +53,11 @@ module _ (l : Limits) where
       + l .blocks * row-cells (l .dests) + l .blocks * row-cells pred-room
 
   -- the form's cells: counts of values and of made ones; target and description of each value; blocks placed; the zeros' calls and blocks;
-  -- parameters; pending variables; last definitions; arguments
+  -- parameters; how many of them are the caller's; pending variables; last definitions; arguments
   abbrev pub form-need : ℕ
   form-need =
       2 + 2 * value-room + row-cells pred-room + 2 * row-cells zero-room
-      + l .blocks * row-cells param-room + l .blocks * row-cells wait-room
+      + l .blocks * row-cells param-room + l .blocks + l .blocks * row-cells wait-room
       + l .variables * l .blocks + l .blocks * (l .dests * row-cells param-room)
 
   -- the work cells: two for each scheduled call, one for each result

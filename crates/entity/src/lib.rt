@@ -198,6 +198,7 @@ pub const FORM_NEED: usize = 2
     + PRED_ROW
     + 2 * ZERO_ROW
     + BLOCKS as usize * PARAM_ROW
+    + BLOCKS as usize
     + BLOCKS as usize * WAIT_ROW
     + VARIABLES as usize * BLOCKS as usize
     + BLOCKS as usize * (DESTS as usize * PARAM_ROW);
