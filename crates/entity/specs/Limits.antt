@@ -6,11 +6,12 @@ pub record Limits : Type 0 where
   pub blocks : ℕ
   pub variables : ℕ
   pub dests : ℕ  -- destinations of a branch
-  pub made : ℕ  -- values that calls of kind 3 make
+  pub made : ℕ  -- values that calls of kinds 3 and 15 make
+  pub own-params : ℕ  -- caller's parameters of a block
   pub calls : ℕ  -- calls of a session
 
 abbrev pub limits : Limits
-limits = record { blocks = 64; variables = 64; dests = 8; made = 4096; calls = 16384 }
+limits = record { blocks = 64; variables = 64; dests = 8; made = 4096; own-params = 64; calls = 16384 }
 
 -- a row that holds a list of up to n entries: its count, then its entries
 abbrev pub row-cells : ℕ → ℕ
@@ -25,9 +26,13 @@ module _ (l : Limits) where
   abbrev pub value-room : ℕ
   value-room = l .made + 2 * zero-room
 
-  -- parameters of a block, arguments of a destination, variables pending in a block
+  -- variables pending in a block
+  abbrev pub wait-room : ℕ
+  wait-room = l .variables
+
+  -- parameters of a block, arguments of a destination: the builder's, one for a variable, and the caller's
   abbrev pub param-room : ℕ
-  param-room = l .variables
+  param-room = l .variables + l .own-params
 
   -- predecessors of a block, blocks placed
   abbrev pub pred-room : ℕ
@@ -52,7 +57,7 @@ module _ (l : Limits) where
   abbrev pub form-need : ℕ
   form-need =
       2 + 2 * value-room + row-cells pred-room + 2 * row-cells zero-room
-      + l .blocks * row-cells param-room + l .blocks * row-cells param-room
+      + l .blocks * row-cells param-room + l .blocks * row-cells wait-room
       + l .variables * l .blocks + l .blocks * (l .dests * row-cells param-room)
 
   -- the work cells: two for each scheduled call, one for each result
