@@ -71,7 +71,7 @@ pairs-same (x ∷ xs) (y ∷ ys) e f =
     let p : x ≡ y = ap {B = ℕ × ℕ} (λ (k : ℕ). (k, x .1)) a ∙ ap {B = ℕ × ℕ} (λ (k : ℕ). (y .0, k)) b in
     rw (r, p)
 
-sort-small : (k : Sort) → sort-number k < sort-room
+pub sort-small : (k : Sort) → sort-number k < sort-room
 sort-small made = omega arith
 sort-small param = omega arith
 sort-small nought = omega arith
