@@ -7,4 +7,5 @@ pub mod Whole
 pub mod Calls
 pub mod Tables
 pub mod Starred
+pub mod Late
 pub mod Carried

@@ -244,8 +244,8 @@ pub fn declare_block_predecessor(graph: &mut [u32], block: Block, branch: Branch
 {
     let at = preds_of(block);
     rows::push(graph, at, branch.0);
-    let p = branch.0 as usize;
-    graph[DECLARED + p] = 1;
+    let marked = branch.0 as usize;
+    graph[DECLARED + marked] = 1;
 }
 
 // The last predecessor moves into the place of the one that leaves, which is answered.
