@@ -4,6 +4,7 @@ use Prim.Native.Nat.{ℕ, suc, _<_, _≤_}
 use mathlib.Core.Path.{_≡_, refl}
 use mathlib.Core.Bool.{Bool, true, false, not, _||_}
 use mathlib.Core.List.{List, [], _∷_}
+use native.Mathlib.Omega.{arith}
 use borrow.Author.Tests.{le-leb, lt-leb, eq-eqb, ne-eqb}
 use lib.ListN.{length, getD}
 use Rattle.entity.specs.Limits.{limits}
@@ -27,7 +28,7 @@ neither true p q e = absurd (false-true e refl)
 
 nothing : {A : Type 0} (l : List A) → not (length l =? 0) ≡ false → l ≡ []
 nothing [] e = refl
-nothing (x ∷ l) e = absurd (false-true e refl)
+nothing (x ∷ l) e = absurd (false-true e (rw (ne-eqb (length (x ∷ l)) 0 (omega arith)) refl))
 
 pub bare : (g : Graph) (s : Form) (b : ℕ) → begun g s b ≡ false → (g .sealed b ≡ false) × (s .pending b ≡ [])
 bare g s b e =
