@@ -31,18 +31,23 @@ cases =
     ++ jumps 0 (1 ∷ []) ++ own-param 1 i32 ∷ own-param 0 6 ∷ drop-pred 1 0 ∷ own-param 1 i32 ∷ seal 2 ∷ own-param 2 i32 ∷ own-param 2 6 ∷ []
     ) ∷
     -- P. An argument gets 6 for an absent branch, value or destination, then 11 where the branch is declared, then 18 where the target has no own parameter
-    -- left, also where it has one of the builder's, then 7 for another type.
+    -- left, also where it has one of the builder's, and whatever the type, then 7 for another type.
     (
     blocks 4 ++ declare-var 0 i32 ∷ own-param 1 i32 ∷ own-param 1 i8 ∷ use-var 0 3 ∷ []
     ++ new-branch 0 ∷ new-dest 0 1 ∷ new-dest 0 2 ∷ new-dest 0 3 ∷ make-value 2 i32 ∷ make-value 2 i8 ∷ []
     ++ give-arg 1 3 0 ∷ give-arg 0 5 0 ∷ give-arg 0 3 3 ∷ give-arg 0 4 0 ∷ give-arg 0 3 0 ∷ give-arg 0 3 0 ∷ give-arg 0 1 0 ∷ []
-    ++ give-arg 0 0 0 ∷ give-arg 0 3 1 ∷ give-arg 0 3 2 ∷ []
+    ++ give-arg 0 0 0 ∷ give-arg 0 3 1 ∷ give-arg 0 4 1 ∷ give-arg 0 3 2 ∷ []
     ++ add-pred 2 0 ∷ give-arg 0 3 1 ∷ give-arg 0 9 1 ∷ drop-pred 2 0 ∷ give-arg 0 3 1 ∷ own-param 2 i32 ∷ give-arg 0 3 1 ∷ []
     ) ∷
     -- Q. A definition in block 0 gets 20 once its branch was declared, after 6 and 7, also once it was removed.
     (
     blocks 2 ++ declare-var 0 i32 ∷ declare-var 1 i8 ∷ make-value 0 i32 ∷ use-var 0 0 ∷ [] ++ jumps 0 (1 ∷ [])
     ++ define 0 0 0 ∷ define-answer 0 5 0 ∷ define 1 0 0 ∷ define 0 9 0 ∷ define-answer 1 4 0 ∷ drop-pred 1 0 ∷ define 0 0 0 ∷ define 0 0 1 ∷ []
+    ) ∷
+    -- R. The builder's parameter 2 of block 1 becomes another name of value 1 and leaves the list; the caller's parameter 0 before it stays.
+    (
+    blocks 2 ++ declare-var 0 i32 ∷ own-param 1 i32 ∷ [] ++ sets 0 i32 1 0
+    ++ new-branch 0 ∷ new-dest 0 1 ∷ give-arg 0 1 0 ∷ add-pred 1 0 ∷ use-var 0 1 ∷ seal-all ∷ []
     ) ∷
     []
 
@@ -107,7 +112,7 @@ expected =
     record {
       counts = (4 ∷ 1 ∷ 6 ∷ 5 ∷ 0 ∷ []);
       answers = ((0, 0) ∷ (0, 1) ∷ (0, 2) ∷ (0, 3) ∷ (0, 0) ∷ (0, 0) ∷ (0, 1) ∷ (0, 2) ∷ (0, 0) ∷ (0, 0) ∷ (0, 1) ∷ (0, 2) ∷ (0, 3) ∷ (0, 4) ∷
-          (6, 0) ∷ (6, 0) ∷ (6, 0) ∷ (7, 0) ∷ (0, 0) ∷ (7, 0) ∷ (0, 1) ∷ (18, 0) ∷ (18, 0) ∷ (18, 0) ∷ (0, 1) ∷ (11, 0) ∷ (6, 0) ∷
+          (6, 0) ∷ (6, 0) ∷ (6, 0) ∷ (7, 0) ∷ (0, 0) ∷ (7, 0) ∷ (0, 1) ∷ (18, 0) ∷ (18, 0) ∷ (18, 0) ∷ (18, 0) ∷ (0, 1) ∷ (11, 0) ∷ (6, 0) ∷
           (0, 0) ∷ (18, 0) ∷ (0, 5) ∷ (0, 0) ∷ []);
       types = (2 ∷ []);
       values = ((3, 2, 1, 0) ∷ (3, 0, 1, 1) ∷ (1, 2, 3, 2) ∷ (0, 2, 2, 3) ∷ (0, 0, 2, 4) ∷ (3, 2, 2, 5) ∷ []);
@@ -137,6 +142,23 @@ expected =
       sealed = (0 ∷ 0 ∷ []);
       declared = (1 ∷ 0 ∷ []);
       last = ((2 ∷ 0 ∷ []) ∷ (1 ∷ 0 ∷ []) ∷ []);
+      zeros = [];
+      placed = (0 ∷ []);
+    } ∷
+    -- R
+    record {
+      counts = (2 ∷ 1 ∷ 3 ∷ 2 ∷ 0 ∷ []);
+      answers = ((0, 0) ∷ (0, 1) ∷ (0, 0) ∷ (0, 0) ∷ (0, 1) ∷ (0, 1) ∷ (0, 0) ∷ (0, 0) ∷ (0, 0) ∷ (0, 1) ∷ (0, 2) ∷ (0, 0) ∷ []);
+      types = (2 ∷ []);
+      values = ((3, 2, 1, 0) ∷ (0, 2, 0, 1) ∷ (1, 2, 1, 1) ∷ []);
+      params = ([] ∷ (0 ∷ []) ∷ []);
+      owns = (0 ∷ 1 ∷ []);
+      branches = ((((1, (1 ∷ [])) ∷ []) ∷ []) ∷ [] ∷ []);
+      preds = ([] ∷ (0 ∷ []) ∷ []);
+      pending = ([] ∷ [] ∷ []);
+      sealed = (1 ∷ 1 ∷ []);
+      declared = (1 ∷ 0 ∷ []);
+      last = ((2 ∷ []) ∷ (3 ∷ []) ∷ []);
       zeros = [];
       placed = (0 ∷ []);
     } ∷
