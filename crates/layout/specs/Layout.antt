@@ -4,7 +4,8 @@ use Prim.Native.Nat.{ℕ, suc, _+_, _*_, _/_, _%_, _≤_, _<_}
 use mathlib.Core.Path.{_≡_, refl}
 use mathlib.Core.List.{List, [], _∷_, map, reverse}
 use lib.ListN.{length, getD}
-use Rattle.entity.specs.Limits.{limits, row-cells, zero-room, value-room, wait-room, param-room, pred-room, call-room, result-room, graph-need, form-need, work-need}
+use Rattle.entity.specs.Limits.{limits, row-cells, zero-room, value-room, wait-room, param-room, pred-room, call-room, result-room}
+use Rattle.entity.specs.Limits.{graph-need, form-need, work-need}
 use Rattle.entity.specs.Described.{packed}
 use Rattle.definition.specs.Form.{Graph, Form, Info, def}
 use Rattle.definition.specs.Session.{bit}
