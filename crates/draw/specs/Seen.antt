@@ -23,7 +23,7 @@ abbrev pub param-table : ℕ
 param-table = 7
 
 abbrev pub arg-table : ℕ
-arg-table = 10
+arg-table = 11
 
 -- the cells of the counts of block b's parameters, of its branch's destinations, and of its branch's arguments at destination i
 abbrev pub params-at : ℕ → ℕ

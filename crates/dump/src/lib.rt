@@ -236,7 +236,7 @@ fn entries(
 ) -> usize {
     let at = cells::pred_row(i);
     let m = list(out, n, in_words, graph, at, i, texts::PREDS, texts::NUMBER);
-    let pending = cells::param_row(layout::PENDING, i);
+    let pending = cells::wait_row(i);
     let k = list(
         out,
         m,

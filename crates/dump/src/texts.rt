@@ -139,8 +139,10 @@ pub fn asked(out: &mut [u8], n: usize, kind: usize, x: Numbers) -> usize {
  seal all blocks
  has block 1 any predecessors
  is block 1 sealed
+ give block 1 a parameter of type T
+ give v2 to destination 3 of the branch of block 1
 ",
-        known(kind, 15),
+        known(kind, 17),
         x,
     )
 }
@@ -165,6 +167,8 @@ pub fn answered(out: &mut [u8], n: usize, kind: usize, x: Numbers) -> usize {
 , zeros added: 4
 : 4
 : 4
+: v4
+, at place 4
 ",
         kind,
         x,
@@ -193,8 +197,8 @@ pub fn reason(out: &mut [u8], n: usize, code: usize, x: Numbers) -> usize {
 
 
 
-
-
+: refused (0), the block is sealed, has a predecessor or a pending variable
+: refused (0), the block can take no more of the caller's
 
 : refused (0), the block's branch was declared before
 ",
@@ -211,6 +215,7 @@ pub fn sort(out: &mut [u8], n: usize, sort: usize, x: Numbers) -> usize {
         b"v0: T made in block 3
 v0: T parameter of block 3
 v0: T zero of block 3
+v0: T caller's parameter of block 3
 ",
         sort,
         x,

@@ -1,7 +1,8 @@
 // Runs a list over tables of its own, and shows what the session leaves.
 ghost use mathlib.Core.Path.{_≡_};
 ghost use lib.ListN.{length};
-ghost use Rattle.entity.specs.Limits.{limits, graph-need, form-need, work-need};
+ghost use Prim.Native.Nat.{suc, _*_};
+ghost use Rattle.entity.specs.Limits.{limits, param-room, graph-need, form-need, work-need};
 use crate::PICTURE;
 use crate::WORDS;
 use input::list::Reading;
@@ -9,8 +10,10 @@ use input::tell;
 
 const CALLS: usize = entity::CALLS as usize;
 
-// More bytes than a picture has.
-const PICTURE_BYTES: usize = 524288;
+// More bytes than a picture has: a line for each block and each destination, with at most seven bytes for an entry. The eighth is room for the names.
+const PICTURE_BYTES: usize = entity::BLOCKS as usize
+    * (1 + entity::DESTS as usize)
+    * (8 * entity::PARAM_ROOM);
 
 // Large arrays are made by a function each, whose ensures gives the length that lending one as a slice needs.
 fn answer_cells() -> [u32; CALLS]
@@ -38,7 +41,7 @@ fn work_cells() -> [u32; entity::WORK_NEED]
 }
 
 fn picture_bytes() -> [u8; PICTURE_BYTES]
-    ensures { λ r. ⌜ 524288 ≡ length r ⌝ }
+    ensures { λ r. ⌜ limits .blocks * suc (limits .dests) * (8 * param-room limits) ≡ length r ⌝ }
 {
     [0u8; PICTURE_BYTES]
 }
