@@ -15,7 +15,7 @@ fn examples_come_out_as_they_went_in() {
     let lists = List::read_all(&example("starred")).unwrap();
     assert_eq!(lists.len(), 12);
     assert_eq!(lists.iter().map(List::to_string).collect::<String>(), example("starred"));
-    assert_eq!(List::read_all(&example("carried")).unwrap().len(), 5);
+    assert_eq!(List::read_all(&example("carried")).unwrap().len(), 6);
 }
 
 #[test]
