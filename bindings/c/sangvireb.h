@@ -158,7 +158,8 @@ typedef struct {
     size_t length;
 } sangvireb_row;
 
-/* The parameters of a block, the caller's before the builder's: as many as its cell of SANGVIREB_OWNS says are the caller's. Lent is the table of parameters: of a session's form the SANGVIREB_PARAM_CELLS cells from SANGVIREB_PARAM_ROWS on. */
+/* The parameters of a block: first the caller's, as many as its cell of SANGVIREB_OWNS says, then the builder's. Lent is the table of parameters: of a
+ * session's form the SANGVIREB_PARAM_CELLS cells from SANGVIREB_PARAM_ROWS on. */
 sangvireb_row sangvireb_params(const uint32_t *params, size_t params_len, uint32_t block);
 
 /* The arguments of a branch's destination by its place. Lent is the table of arguments: the SANGVIREB_ARG_CELLS cells from SANGVIREB_ARG_ROWS on. */

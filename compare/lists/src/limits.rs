@@ -21,7 +21,8 @@ pub fn list(rng: &mut Rng) -> Vec<Call> {
 pub fn fixed() -> Vec<Vec<Call>> {
     let mut rng = Rng::new(0);
     let one_too_many = vec![[12, 0, 0, 0]; MAX_CALLS + 1];
-    vec![arguments(&mut rng, 0), arguments(&mut rng, OWN_PARAMS), full_lookup(&mut rng), waiting_results(&mut rng), followed_chain(16, 16), everything(), one_too_many]
+    let argued = [arguments(&mut rng, 0), arguments(&mut rng, OWN_PARAMS)];
+    argued.into_iter().chain([full_lookup(&mut rng), waiting_results(&mut rng), followed_chain(16, 16), everything(), one_too_many]).collect()
 }
 
 /// As many calls as a list can have, and as many values: made, and a parameter and a zero for each variable in each block, none of which has a way in.
