@@ -9,7 +9,7 @@ use sangvireb::raw::{self, *};
 use std::fmt;
 
 /// More bytes than a picture has.
-const MOST: usize = 1 << 19;
+const MOST: usize = 1 << 20;
 /// The codes that a drawing can get.
 const CODES: [u32; 4] = [0, SHORT, NO_ROOM, NOT_DRAWABLE];
 

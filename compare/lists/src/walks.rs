@@ -143,9 +143,9 @@ pub fn run(lists: u64, seed: u64) -> ExitCode {
 
 fn summary(figures: &Figures) {
     let resolved: Vec<String> = Sort::ALL.iter().zip(figures.uses).map(|(sort, uses)| format!("{sort} {uses}")).collect();
-    println!("{} lists meet the suppositions; {} more did not and were not walked", figures.lists - figures.foreign, figures.unfit);
-    println!("{} of them have parameters of the caller's, with {} arguments given for them", figures.carrying, figures.given);
-    println!("{} more give only arguments from elsewhere than the branching block", figures.foreign);
+    let supposed = figures.lists - figures.foreign;
+    println!("{supposed} lists meet the suppositions, {} all but where their arguments come from; {} others were not walked", figures.foreign, figures.unfit);
+    println!("{} of those walked have parameters of the caller's, with {} arguments given for them", figures.carrying, figures.given);
     println!("{} paths through {} blocks, {} uses met on them", figures.paths, figures.blocks, figures.uses.iter().sum::<u64>());
     println!("sorts to which answers resolve: {}; {} were aliases", resolved.join(", "), figures.aliases);
     let [unset, floats] = figures.unset;
