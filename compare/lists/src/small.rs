@@ -17,14 +17,15 @@ const fn part(name: &'static str, each: fn(Visit) -> bool) -> Part {
     Part { name, long: false, each }
 }
 
-pub const PARTS: [Part; 9] = [
+pub const PARTS: [Part; 10] = [
     part("one", one),
     part("two-uses", two_uses),
     part("two-definitions", two_definitions),
     part("three-sealing", three_sealing),
     part("three-branching", three_branching),
     part("three-late", three_late),
-    part("carried", carried),
+    part("carried", |visit| carried(visit, giving_branches)),
+    part("carried-short", |visit| carried(visit, branches)),
     part("carried-edge", carried_edge),
     Part { name: "three-long", long: true, each: three_long },
 ];
@@ -223,12 +224,12 @@ fn giving_branches(graph: &Graph) -> Bag {
     bag
 }
 
-/// A parameter of the caller's on one of two blocks, which a branch has an argument for where it comes after it; a definition and a use.
-fn carried(visit: Visit) -> bool {
+/// A parameter of the caller's on one of two blocks, a definition and a use; branches that come after the parameter have an argument for it, or none.
+fn carried(visit: Visit, branches: fn(&Graph) -> Bag) -> bool {
     graphs(2, &choices(2, false)).iter().all(|graph| {
         (0..8).all(|place| {
             let [own, defined, used] = [place & 1, place >> 1 & 1, place >> 2];
-            let mut bag = [giving_branches(graph), seals(2), once(used)].concat();
+            let mut bag = [branches(graph), seals(2), once(used)].concat();
             bag.extend([(vec![[15, own, TYPE, 0]], 1), (vec![[4, 0, defined, defined]], 1)]);
             orders(&mut bag, &mut beginning(2, &[0, 1]), &uses(&[0, 1]), visit)
         })
