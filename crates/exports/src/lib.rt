@@ -15,7 +15,8 @@ use entity::Value;
 use reader::Asked;
 use reader::Span;
 
-// Raised when an exported call takes, answers or leaves something else: a host built for another version refuses to start.
+// Raised when an exported call takes, answers or leaves something else, or what it leaves stands for something else: a host built for another version
+// refuses to start.
 pub const VERSION: u32 = 2;
 
 // Kinds of call are numbered from 1 to this.
