@@ -30,7 +30,9 @@ pub struct Told {
 
 macro_rules! dump_of {
     ($side:ident, $mode:ident, $calls:expr, $homes:expr) => {{
-        let mut session = $side::session::Session::new($side::session::Mode::$mode);
+        // request 5: a float's unset value is a quiet NaN (lines `K`)
+        let rules = $side::session::Rules { unset_nan: true, ..$side::session::Rules::base() };
+        let mut session = $side::session::Session::with_rules($side::session::Mode::$mode, rules);
         for c in $calls {
             session.call(c[0].into(), c[1].into(), c[2].into(), c[3].into());
         }
