@@ -2,6 +2,7 @@
 ghost use mathlib.Core.Path.{_≡_};
 ghost use Rattle.definition.specs.Resolve.{Resolved};
 ghost use Rattle.draw.specs.Draws.{Draws};
+ghost use Rattle.entity.specs.Types.{unset-with};
 ghost use Rattle.layout.specs.Outcome.{lent};
 ghost use Rattle.reader.specs.Rows.{Located};
 ghost use Rattle.reader.specs.declared.Asked.the-variants.{Params, Args};
@@ -14,8 +15,9 @@ use entity::Value;
 use reader::Asked;
 use reader::Span;
 
-// Raised when an exported call takes, answers or leaves something else: a host built for another version refuses to start.
-pub const VERSION: u32 = 1;
+// Raised when an exported call takes, answers or leaves something else, or what it leaves stands for something else: a host built for another version
+// refuses to start.
+pub const VERSION: u32 = 3;
 
 // Kinds of call are numbered from 1 to this.
 pub const KINDS: u32 = 14;
@@ -110,6 +112,14 @@ pub extern "C" fn sangvireb_draw(graph: &[u32], form: &[u32], buffer: &mut [u8])
         code: d.code,
         length: d.length,
     }
+}
+
+// The bits of a type's unset value, by the type's number: what a zero of that type holds. A number that names no type gets 0.
+#[no_mangle]
+pub extern "C" fn sangvireb_unset_bits(ty: u32) -> u64
+    ensures { λ r. ⌜ r ≡ unset-with ty ⌝ }
+{
+    Type::unset_bits_with(ty)
 }
 
 // Tells a host what this library was built for. The places keep their meaning from version to version; a place past them gets 0.
