@@ -15,7 +15,7 @@ extern "C" {
 #endif
 
 /* The interface that this header is for. Ask sangvireb_fits() once before anything else. */
-enum { SANGVIREB_VERSION = 3 };
+enum { SANGVIREB_VERSION = 4 };
 
 /* Limits, and the lengths that the three lists of tables need. The answers need a cell a call. */
 enum {

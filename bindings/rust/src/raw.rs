@@ -6,7 +6,7 @@
 use crate::{library, Block, Branch, Kind, Sort, Type};
 
 /// The version of the library's calls that this package was written for.
-pub const VERSION: u32 = 3;
+pub const VERSION: u32 = 4;
 
 /// Blocks in a session.
 pub const BLOCKS: usize = 64;

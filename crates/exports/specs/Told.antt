@@ -6,9 +6,9 @@ use lib.ListN.{getD}
 use Rattle.entity.specs.Limits.{limits, graph-need, form-need, work-need}
 use Rattle.entity.specs.Types.{type-count}
 
--- rises when an exported call takes, answers or leaves something else, or has another name
+-- rises when an exported call takes, answers or leaves something else, or has another name, or when what it leaves stands for something else
 abbrev pub version : ℕ
-version = 3
+version = 4
 
 -- kinds of call are numbered from 1 to this
 abbrev pub kind-count : ℕ

@@ -15,8 +15,9 @@ use entity::Value;
 use reader::Asked;
 use reader::Span;
 
-// Raised when an exported call takes, answers or leaves something else: a host built for another version refuses to start.
-pub const VERSION: u32 = 3;
+// Raised when an exported call takes, answers or leaves something else, or what it leaves stands for something else: a host built for another version
+// refuses to start.
+pub const VERSION: u32 = 4;
 
 // Kinds of call are numbered from 1 to this.
 pub const KINDS: u32 = 16;
