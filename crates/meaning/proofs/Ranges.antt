@@ -14,7 +14,7 @@ use Rattle.entity.specs.Limits.{limits}
 use Rattle.entity.specs.Types.{type-count}
 use Rattle.definition.specs.Base.{put, put₂, orElse, every, has, without}
 use Rattle.definition.specs.Form.{Graph, Form, Info, param, nought, def, with-args, with-params, with-owns, with-entry, made, caller, with-makes, Sort}
-use Rattle.definition.specs.Read.{Got, resolve, follow, type-of, mark-one, mark, alias, is-dest, feed, feed-all, settle-left, settle, place-block, make, write}
+use Rattle.definition.specs.Read.{Got, resolve, follow, type-of, mark-one, mark, alias, is-dest, feed, feed-all, settle-left, settle, place-block, make, write, record-binding}
 use Rattle.meaning.specs.Path.{In}
 use Rattle.meaning.specs.Stored.{Nodup}
 use Rattle.meaning.proofs.Causing.{Caused, new-caused, entered-caused, wider-caused, aliased-caused}
@@ -220,7 +220,7 @@ module _ (g : Graph) (s : Form) (h : Ranged g s) where
     still = h .still;
   }
 
-  pub write-ranged : (v b x : ℕ) → v < length (g .types) → b < g .blocks → x < s .next → Ranged g (write v b x s)
+  pub write-ranged : (v b x : ℕ) → v < length (g .types) → b < g .blocks → x < s .next → Ranged g (record-binding g v x (write v b x s))
   write-ranged v b x lv lb lx = record {
     valued = h .valued;
     recorded = record {
