@@ -22,9 +22,16 @@ use Rattle.meaning.proofs.Ranges.{mark-is}
 use Rattle.meaning.proofs.Inv.{Work}
 use Rattle.meaning.proofs.Growing.{grown}
 
--- x was recorded or stands for v, in a block's own definitions o or at its beginning e
+-- x stands for v in b, by the block's own definitions o or at its beginning e
 abbrev pub Stands : (o e : ℕ → ℕ → Option ℕ) → ℕ → ℕ → ℕ → Type 0
 Stands o e v b x = (o v b ≡ some x) ⊎ (e v b ≡ some x)
+
+pub stands : (s : Form) (v b x : ℕ) → def s v b ≡ some x → Stands (s .own) (s .entry) v b x
+stands s v b x e = by (s .own v b) e
+  where
+    by : (o : Option ℕ) → orElse o (s .entry v b) ≡ some x → (o ≡ some x) ⊎ (s .entry v b ≡ some x)
+    by (some y) q = inl q
+    by none q = inr q
 
 -- what stands for a marked variable is recorded
 abbrev pub Bound : (m : ℕ → Bool) (o e : ℕ → ℕ → Option ℕ) (r : ℕ → Bool) → Type 0
@@ -34,6 +41,11 @@ Bound m o e r = (v b x : ℕ) → m v ≡ true → Stands o e v b x → r x ≡ 
 abbrev pub New : (m : ℕ → Bool) (n n′ : ℕ) (i : ℕ → Info) (e : ℕ → ℕ → Option ℕ) → ℕ → Type 0
 New m n n′ i e x = (n ≤ x) × (x < n′) × (i x .sort ≡ param) × ((v : ℕ) × (m v ≡ true) × (e v (i x .home) ≡ some x))
 
+-- there are n values, and each from k on stands for one variable at most
+pub record Alone (k : ℕ) (o e : ℕ → ℕ → Option ℕ) (n : ℕ) : Type 0 where
+  pub below : (w b x : ℕ) → Stands o e w b x → x < n
+  pub one : (w w′ b b′ x : ℕ) → k ≤ x → Stands o e w b x → Stands o e w′ b′ x → w ≡ w′
+
 -- Each part speaks of what it reads, so that a change of other tables is none.
 pub record Bindings (m : ℕ → Bool) (o o′ e e′ : ℕ → ℕ → Option ℕ) (i i′ : ℕ → Info) (n n′ : ℕ) (r r′ : ℕ → Bool) : Type 0 where
   pub entry : (w b x : ℕ) → e w b ≡ some x → e′ w b ≡ some x
@@ -41,8 +53,8 @@ pub record Bindings (m : ℕ → Bool) (o o′ e e′ : ℕ → ℕ → Option �
   pub more : n ≤ n′
   pub still : (x : ℕ) → r x ≡ true → r′ x ≡ true
   pub new : (x : ℕ) → r′ x ≡ true → (r x ≡ true) ⊎ New m n n′ i′ e′ x
-  pub own : (w b : ℕ) → o′ w b ≡ o w b
   pub bound : Bound m o e r → Bound m o′ e′ r′
+  pub alone : (k : ℕ) → Alone k o e n → Alone k o′ e′ n′
 
 abbrev pub Binds : Graph → Form → Form → Type 0
 Binds g s s′ = Bindings (g .marks) (s .own) (s′ .own) (s .entry) (s′ .entry) (s .info) (s′ .info) (s .next) (s′ .next) (s .recorded) (s′ .recorded)
@@ -55,8 +67,8 @@ module _ (g : Graph) where
     more = omega arith;
     still = λ x q. q;
     new = λ x q. inl q;
-    own = λ w b. refl;
     bound = λ h. h;
+    alone = λ k h. h;
   }
 
   pub binds-trans : (s t u : Form) → Binds g s t → Binds g t u → Binds g s u
@@ -69,8 +81,8 @@ module _ (g : Graph) where
       | inl k ↦ elim (p .new x k) [ inl j ↦ inl j | inr j ↦ inr (on x j) ]
       | inr k ↦ inr (le-trans (p .more) (k .0), k .1, k .2, k .3)
     ];
-    own = λ w b. q .own w b ∙ p .own w b;
     bound = λ h. q .bound (p .bound h);
+    alone = λ k h. q .alone k (p .alone k h);
   }
     where
       on : (x : ℕ) → New (g .marks) (s .next) (t .next) (t .info) (t .entry) x → New (g .marks) (s .next) (u .next) (u .info) (u .entry) x
@@ -101,8 +113,8 @@ module _ (g : Graph) where
     more = omega arith;
     still = λ x q. q;
     new = λ x q. inl q;
-    own = λ w c. refl;
     bound = λ h. h;
+    alone = λ k h. record { below = λ w c x q. le-trans (h .below w c x q) (omega arith); one = h .one };
   }
 
   pub settle-binds : (b x : ℕ) (rs : List ℕ) (s : Form) (left : List ℕ) → Binds g s (settle-left g b x rs s left .1)
@@ -124,18 +136,26 @@ module _ (g : Graph) where
     more = omega arith;
     still = bind-still (g .marks v) (s .next) (s .recorded);
     new = λ x q. elim (bind-is (g .marks v) (s .next) (s .recorded) x q) [ inl k ↦ inl k | inr k ↦ inr (fresh x (k .1) (k .0)) ];
-    own = λ w b. refl;
-    bound = λ h w b x k q. elim q [
-      | inl o ↦ bind-still (g .marks v) (s .next) (s .recorded) x (h w b x k (inl o))
-      | inr e ↦ elim (put₂-is v c (s .next) (s .entry) w b x e) [
-        | inl j ↦ rw (j .2) (bind-at (g .marks v) (s .next) (s .recorded) (rw (j .0) at k))
-        | inr j ↦ bind-still (g .marks v) (s .next) (s .recorded) x (h w b x k (inr j))
-      ]
+    bound = λ h w b x k q. elim (was w b x q) [
+      | inl j ↦ rw (j .1) (bind-at (g .marks v) (s .next) (s .recorded) (rw (j .0) at k))
+      | inr j ↦ bind-still (g .marks v) (s .next) (s .recorded) x (h w b x k j)
     ];
+    alone = λ k h. record {
+      below = λ w b x q. elim (was w b x q) [ inl j ↦ omega (arith, j .1) | inr j ↦ le-trans (h .below w b x j) (omega arith) ];
+      one = λ w u b d x l p q. elim (was w b x p) [
+        | inl i ↦ elim (was u d x q) [ inl j ↦ i .0 ∙ sym (j .0) | inr j ↦ absurd (omega (arith, i .1, h .below u d x j)) ]
+        | inr i ↦ elim (was u d x q) [ inl j ↦ absurd (omega (arith, j .1, h .below w b x i)) | inr j ↦ h .one w u b d x l i j ]
+      ];
+    };
   }
     where
       made : Info
       made = record { sort = param; type = type-of g v; home = c }
+
+      -- it is the parameter, or stood before
+      was : (w b x : ℕ) → Stands (s .own) (put₂ v c (some (s .next)) (s .entry)) w b x → ((w ≡ v) × (x ≡ s .next)) ⊎ Stands (s .own) (s .entry) w b x
+      was w b x (inl o) = inr (inl o)
+      was w b x (inr e) = elim (put₂-is v c (s .next) (s .entry) w b x e) [ inl j ↦ inl (j .0, j .2) | inr j ↦ inr (inr j) ]
 
       fresh : (x : ℕ) → x ≡ s .next → g .marks v ≡ true → New (g .marks) (s .next) (suc (s .next)) (put (s .next) made (s .info)) (put₂ v c (some (s .next)) (s .entry)) x
       fresh x e m = let i = put-at (s .next) made (s .info) x e in (
@@ -145,36 +165,38 @@ module _ (g : Graph) where
         (v, m, put₂-at v c (some (s .next)) (s .entry) v (put (s .next) made (s .info) x .home) refl (ap (λ (j : Info). j .home) i) ∙ ap {B = Option ℕ} some (sym e)),
       )
 
-  -- x is copied onto these blocks, which have nothing else of v, and is recorded if v is marked
-  mark-entry : (v x : ℕ) (bs : List ℕ) (s : Form) → ((b : ℕ) → In b bs → (e : ℕ) → s .entry v b ≡ some e → e ≡ x)
-      → (w b e : ℕ) → s .entry w b ≡ some e → mark v x bs s .entry w b ≡ some e
-  mark-entry v x [] s fits w b e q = q
-  mark-entry v x (c ∷ bs) s fits w b e q = elim (here? w v b c) [
-    | inl k ↦ put₂-at v c (some x) (mark v x bs s .entry) w b (k .0) (k .1) ∙ ap {B = Option ℕ} some (sym (fits c (inl refl) e (rw (k .0, k .1) at q)))
-    | inr n ↦ put₂-other v c (some x) (mark v x bs s .entry) w b n ∙ mark-entry v x bs s (λ d i. fits d (inr i)) w b e q
-  ]
+  -- x, which stands for v in c, is copied onto these blocks, which have nothing else of v
+  module _ (v x c : ℕ) (s : Form) (at-c : Stands (s .own) (s .entry) v c x) where
+    mark-entry : (bs : List ℕ) → ((b : ℕ) → In b bs → (e : ℕ) → s .entry v b ≡ some e → e ≡ x)
+        → (w b e : ℕ) → s .entry w b ≡ some e → mark v x bs s .entry w b ≡ some e
+    mark-entry [] fits w b e q = q
+    mark-entry (d ∷ bs) fits w b e q = elim (here? w v b d) [
+      | inl k ↦ put₂-at v d (some x) (mark v x bs s .entry) w b (k .0) (k .1) ∙ ap {B = Option ℕ} some (sym (fits d (inl refl) e (rw (k .0, k .1) at q)))
+      | inr n ↦ put₂-other v d (some x) (mark v x bs s .entry) w b n ∙ mark-entry bs (λ j i. fits j (inr i)) w b e q
+    ]
 
-  mark-from : (v x : ℕ) (bs : List ℕ) (s : Form) (w b e : ℕ) → mark v x bs s .entry w b ≡ some e → ((w ≡ v) × (e ≡ x)) ⊎ (s .entry w b ≡ some e)
-  mark-from v x [] s w b e q = inr q
-  mark-from v x (c ∷ bs) s w b e q = elim (put₂-is v c x (mark v x bs s .entry) w b e q) [ inl k ↦ inl (k .0, k .2) | inr k ↦ mark-from v x bs s w b e k ]
+    -- what stands for a variable then stood for it before
+    was : (bs : List ℕ) (w b y : ℕ) → Stands (s .own) (mark v x bs s .entry) w b y → (d : ℕ) × Stands (s .own) (s .entry) w d y
+    was [] w b y q = (b, q)
+    was (d ∷ bs) w b y (inl o) = (b, inl o)
+    was (d ∷ bs) w b y (inr e) = elim (put₂-is v d x (mark v x bs s .entry) w b y e) [
+      | inl k ↦ (c, rw (k .0, k .2) at-c)
+      | inr k ↦ was bs w b y (inr k)
+    ]
 
-  pub mark-binds : (v x : ℕ) (bs : List ℕ) (s : Form) → ((b : ℕ) → In b bs → (e : ℕ) → s .entry v b ≡ some e → e ≡ x)
-      → (Bound (g .marks) (s .own) (s .entry) (s .recorded) → g .marks v ≡ true → s .recorded x ≡ true) → Binds g s (mark v x bs s)
-  mark-binds v x bs s fits in-set = rw (mark-is v x bs s) (record {
-    entry = mark-entry v x bs s fits;
-    info = λ y l. refl;
-    more = omega arith;
-    still = λ y q. q;
-    new = λ y q. inl q;
-    own = λ w b. refl;
-    bound = λ h w b y k q. elim q [
-      | inl o ↦ h w b y k (inl o)
-      | inr e ↦ elim (mark-from v x bs s w b y e) [
-        | inl j ↦ rw (j .1) (in-set h (rw (j .0) at k))
-        | inr j ↦ h w b y k (inr j)
-      ]
-    ];
-  })
+    pub mark-binds : (bs : List ℕ) → ((b : ℕ) → In b bs → (e : ℕ) → s .entry v b ≡ some e → e ≡ x) → Binds g s (mark v x bs s)
+    mark-binds bs fits = rw (mark-is v x bs s) (record {
+      entry = mark-entry bs fits;
+      info = λ y l. refl;
+      more = omega arith;
+      still = λ y q. q;
+      new = λ y q. inl q;
+      bound = λ h w b y k q. let j = was bs w b y q in h w (j .0) y k (j .1);
+      alone = λ k h. record {
+        below = λ w b y q. let j = was bs w b y q in h .below w (j .0) y (j .1);
+        one = λ w u b d y l p q. let i = was bs w b y p in let j = was bs u d y q in h .one w u (i .0) (j .0) y l (i .1) (j .1);
+      };
+    })
 
 -- ---- the walk
 
@@ -221,16 +243,12 @@ module _ (g : Graph) (s : Form) (v : ℕ) where
 
     -- to c, where it met x
     met-binds : (c x : ℕ) → def s v c ≡ some x → Binds g s (mark v x over s)
-    met-binds c x e = mark-binds g v x over s (λ b i y q. absurd (some-none q (bare b (blank b i)))) (λ h k. h v c x k (stands (s .own v c) e))
-      where
-        stands : (o : Option ℕ) → orElse o (s .entry v c) ≡ some x → (o ≡ some x) ⊎ (s .entry v c ≡ some x)
-        stands (some y) q = inl q
-        stands none q = inr q
+    met-binds c x e = mark-binds g v x c s (stands s v c x e) over (λ b i y q. absurd (some-none q (bare b (blank b i))))
 
     -- to c, where it met nothing: the parameter stands in c, and is copied onto the blocks before; ws waits
     opened-binds : (c : ℕ) → def s v c ≡ none → (ws : Work) → Binds g s (mark v (s .next) (before c over) (grown g s v c ws))
     opened-binds c e ws = binds-trans g s s₁ (mark v x (before c over) s₁) (param-binds g v c s (bare c e))
-        (mark-binds g v x (before c over) s₁ fits (λ h k. h v c x k (inr (put₂-at v c (some x) (s .entry) v c refl refl))))
+        (mark-binds g v x c s₁ (inr (put₂-at v c (some x) (s .entry) v c refl refl)) (before c over) fits)
       where
         x : ℕ
         x = s .next
@@ -292,7 +310,7 @@ module _ (g : Graph) where
                   binds-trans g s s₁ (fill (read n g v) g c x s₁ .1) (f (s .pending)) (fill-binds (read n g v) R c x s₁)
               by false = f (put c (s .pending c ∷ʳ (v, x)) (s .pending))
 
-  settled-binds : (b : ℕ) (ws : List (ℕ × ℕ)) (s : Form) → Binds g s (settle-pending g b ws s)
+  pub settled-binds : (b : ℕ) (ws : List (ℕ × ℕ)) (s : Form) → Binds g s (settle-pending g b ws s)
   settled-binds b [] s = binds-refl g s
   settled-binds b (w ∷ ws) s =
       let s′ = fill (read (depth g) g (w .0)) g b (w .1) s .1 in

@@ -54,3 +54,4 @@ pub mod Answers
 -- stack maps: which values are recorded, and that marks change nothing else
 pub mod Binding
 pub mod Unmarked
+pub mod Marks

@@ -133,13 +133,7 @@ each-bare (b ∷ bs) g s = by (g .sealed b) (each-bare bs g s)
 
 answered-bare : (ds : List Done) (i : ℕ) → answered (map unmark-done ds) i ≡ answered ds i
 answered-bare [] i = refl
-answered-bare (d ∷ ds) zero = by (d .asked .kind) refl
-  where
-    by : (k : ℕ) → d .asked .kind ≡ k → answered (unmark-done d ∷ map unmark-done ds) 0 ≡ answered (d ∷ ds) 0
-    by k e = elim (bool? (eqb (d .asked .kind) 17)) [
-      | inl y ↦ rw (y, eqb-eq (d .asked .kind) 17 y) refl
-      | inr n ↦ rw n refl
-    ]
+answered-bare (d ∷ ds) zero = elim (bool? (eqb (d .asked .kind) 17)) [ inl y ↦ rw (y, eqb-eq (d .asked .kind) 17 y) refl | inr n ↦ rw n refl ]
 answered-bare (d ∷ ds) (suc i) = answered-bare ds i
 
 abbrev bare-reply : Reply → Reply

@@ -41,7 +41,7 @@ pub record Whole (E : Type 0) (g : Graph) (s : Form) (ds : List Done) : Type 0 w
   pub own : (b v : ℕ) → s .own v b ≡ cur (λ w. none) (acts b ds) v
   pub tells : (b : ℕ) → Tells s b (λ v. s .entry v b) [] (acts b ds)
 
-acts-snoc : (b : ℕ) (ds : List Done) (d : Done) → acts b (ds ++ d ∷ []) ≡ acts b ds ++ act b d
+pub acts-snoc : (b : ℕ) (ds : List Done) (d : Done) → acts b (ds ++ d ∷ []) ≡ acts b ds ++ act b d
 acts-snoc b ds d = acts-append b ds (d ∷ []) ∙ ap (λ (l : List Act). acts b ds ++ l) (append-nil (act b d))
 
 given-snoc : (p i : ℕ) (ds : List Done) (d : Done) → given p i (ds ++ d ∷ []) ≡ given p i ds ++ gift p i d
