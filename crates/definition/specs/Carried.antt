@@ -1,5 +1,5 @@
--- Lists beyond the starred ones: parameters of the caller's own, definitions that come late, marks for stack maps. As there one claim says all answers and every
--- table that each leaves, proved by computation; what is expected is what the crate itself left, with the rules that requests 04, 07 and 09 add.
+-- Lists beyond the starred ones: parameters of the caller's own, definitions that come late, marks for stack maps. As there one claim says all answers and
+-- every table that each leaves, proved by computation; what is expected is what the crate itself left, with the rules that requests 04, 07 and 09 add.
 -- Assumes nothing.
 use Prim.Native.Nat.{ℕ}
 use mathlib.Core.Path.{_≡_, refl}

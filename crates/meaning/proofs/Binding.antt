@@ -1,7 +1,7 @@
--- Reading a variable and settling a parameter keep what stands for a variable where a block begins, and add to the recorded values only new parameters of marked
--- variables: a walk copies onto blocks without a definition, and what it copies is a definition already. No invariant is needed. Assumes nothing.
+-- Reading a variable and settling a parameter keep what stands for a variable where a block begins, and add to the set of recorded values only new parameters
+-- of marked variables: a walk copies onto blocks without a definition, and what it copies is a definition already. No invariant is needed. Assumes nothing.
 use Prim.Native.Nat.{ℕ, zero, suc, _<_, _≤_}
-use mathlib.Core.Path.{_≡_, refl, sym, ap, _∙_, subst}
+use mathlib.Core.Path.{_≡_, refl, sym, ap, _∙_}
 use mathlib.Core.Logic.{_⊎_, inl, inr}
 use mathlib.Core.Bool.{Bool, true, false, cond}
 use mathlib.Core.Option.{Option, none, some}
@@ -12,12 +12,12 @@ use native.Mathlib.Omega.{arith}
 use native.Mathlib.Nat.{le-trans}
 use Rattle.definition.specs.Base.{put, put₂, orElse, _∷ʳ_, has, every, without, before}
 use Rattle.definition.specs.Form.{Graph, Form, Info, Sort, param, def, with-args}
-use Rattle.definition.specs.Read.{Got, resolve, type-of, mark, make, alias, feed-all, new-param, wait, settle-left, settle, single, Walk, stop, on-to, past, walk}
+use Rattle.definition.specs.Read.{Got, resolve, type-of, mark, make, alias, feed-all, new-param, settle-left, single, Walk, stop, on-to, past, walk}
 use Rattle.definition.specs.Read.{read-all, fill, begin, read-past, read-on, read, depth, set-pending, settle-pending}
 use Rattle.definition.specs.Session.{mark-sealed, seal-form, seal-each}
 use Rattle.meaning.specs.Path.{In}
-use Rattle.meaning.specs.Machine.{Task, look, finish, Conf, conf, open-param, find, visit, turn, turns}
-use Rattle.meaning.proofs.Maps.{same?, eqb-same, eqb-diff, put-same, put-other, put-at, put₂-at, put₂-other, put₂-is, here?, some-inj, some-none, or-none}
+use Rattle.meaning.specs.Machine.{Task, look, finish, Conf, open-param, find, visit, turn, turns}
+use Rattle.meaning.proofs.Maps.{same?, put-same, put-other, put-at, put₂-at, put₂-other, put₂-is, here?, some-none, or-none}
 use Rattle.meaning.proofs.Ranges.{mark-is}
 use Rattle.meaning.proofs.Inv.{Work}
 use Rattle.meaning.proofs.Growing.{grown}
@@ -86,8 +86,11 @@ module _ (g : Graph) where
   }
     where
       on : (x : ℕ) → New (g .marks) (s .next) (t .next) (t .info) (t .entry) x → New (g .marks) (s .next) (u .next) (u .info) (u .entry) x
-      on x k = let i = q .info x (k .1) in
-          (k .0, le-trans (k .1) (q .more), ap (λ (j : Info). j .sort) i ∙ k .2, (k .3 .0, k .3 .1, ap (λ (j : Info). u .entry (k .3 .0) (j .home)) i ∙ q .entry (k .3 .0) (t .info x .home) x (k .3 .2)))
+      on x k =
+          let i = q .info x (k .1) in
+          let v = k .3 .0 in
+          let e = ap (λ (j : Info). u .entry v (j .home)) i ∙ q .entry v (t .info x .home) x (k .3 .2) in
+          (k .0, le-trans (k .1) (q .more), ap (λ (j : Info). j .sort) i ∙ k .2, (v, k .3 .1, e))
 
 -- ---- recording one value, where z says whether its variable is marked
 
@@ -157,13 +160,12 @@ module _ (g : Graph) where
       was w b x (inl o) = inr (inl o)
       was w b x (inr e) = elim (put₂-is v c (s .next) (s .entry) w b x e) [ inl j ↦ inl (j .0, j .2) | inr j ↦ inr (inr j) ]
 
-      fresh : (x : ℕ) → x ≡ s .next → g .marks v ≡ true → New (g .marks) (s .next) (suc (s .next)) (put (s .next) made (s .info)) (put₂ v c (some (s .next)) (s .entry)) x
-      fresh x e m = let i = put-at (s .next) made (s .info) x e in (
-        omega arith,
-        omega arith,
-        ap (λ (j : Info). j .sort) i,
-        (v, m, put₂-at v c (some (s .next)) (s .entry) v (put (s .next) made (s .info) x .home) refl (ap (λ (j : Info). j .home) i) ∙ ap {B = Option ℕ} some (sym e)),
-      )
+      fresh : (x : ℕ) → x ≡ s .next → g .marks v ≡ true
+          → New (g .marks) (s .next) (suc (s .next)) (put (s .next) made (s .info)) (put₂ v c (some (s .next)) (s .entry)) x
+      fresh x e m =
+          let i = put-at (s .next) made (s .info) x e in
+          let there = put₂-at v c (some (s .next)) (s .entry) v (put (s .next) made (s .info) x .home) refl (ap (λ (j : Info). j .home) i) in
+          (omega arith, omega arith, ap (λ (j : Info). j .sort) i, (v, m, there ∙ ap {B = Option ℕ} some (sym e)))
 
   -- x, which stands for v in c, is copied onto these blocks, which have nothing else of v
   module _ (v x c : ℕ) (s : Form) (at-c : Stands (s .own) (s .entry) v c x) where
@@ -287,7 +289,8 @@ module _ (g : Graph) where
   fill-binds : (rec : ℕ → Form → Got) → Reads-so rec → (b x : ℕ) (s : Form) → Binds g s (fill rec g b x s .1)
   fill-binds rec R b x s =
       let q = read-all rec (g .preds b) s in
-      binds-trans g s (q .1) (fill rec g b x s .1) (all-binds rec R (g .preds b) s) (settle-binds g b x (q .0) (q .1) (without x (map (resolve (q .1)) (q .0))))
+      binds-trans g s (q .1) (fill rec g b x s .1) (all-binds rec R (g .preds b) s)
+      (settle-binds g b x (q .0) (q .1) (without x (map (resolve (q .1)) (q .0))))
 
   pub read-binds : (v n : ℕ) → Reads-so (read n g v)
   read-binds v zero b s = binds-refl g s

@@ -1,5 +1,5 @@
--- Exactly what a marked variable was given, or had appended as its parameter, is in the set: a definition and a new parameter are all that records a value, and
--- a variable is marked before anything stands for it. Assumes nothing.
+-- Exactly what a marked variable was given, or had appended as its parameter, is in the set: a definition and a new parameter are all that records a value,
+-- and a variable is marked before anything stands for it. Assumes nothing.
 use Prim.Native.Nat.{ℕ, zero, suc, _<_, _≤_}
 use mathlib.Core.Path.{_≡_, refl, sym, ap, _∙_, subst}
 use mathlib.Core.Logic.{_≢_, _⊎_, inl, inr}
@@ -11,15 +11,15 @@ use lib.ListN.{length, getD}
 use native.Mathlib.Omega.{arith}
 use Rattle.entity.specs.Types.{type-count}
 use Rattle.entity.specs.Limits.{limits}
-use Rattle.definition.specs.Base.{put, put₂, orElse, is-some, _∷ʳ_, has, any, upFrom}
-use Rattle.definition.specs.Form.{Graph, Form, Info, made, param, nought, caller, def, with-blocks, with-marks}
-use Rattle.definition.specs.Read.{type-of, write, record-binding, place-block, depth, set-pending, settle-pending}
-use Rattle.definition.specs.Session.{Call, Done, State, Reply, no, ok, refuse_when_else_, declared-anywhere, no-block, no-var, no-value, no-branch, define, define-answer}
-use Rattle.definition.specs.Session.{mark-sealed, seal-form, seal-each, answered, mark-var, reply, tick, after, step, empty, session}
+use Rattle.definition.specs.Base.{put, is-some, _∷ʳ_, has, any, upFrom}
+use Rattle.definition.specs.Form.{Graph, Form, Info, made, nought, caller, def, with-blocks}
+use Rattle.definition.specs.Read.{type-of, place-block, depth, set-pending, settle-pending}
+use Rattle.definition.specs.Session.{Call, Done, State, Reply, no, ok, refuse_when_else_, declared-anywhere, no-block, no-var, no-value, no-branch, define}
+use Rattle.definition.specs.Session.{define-answer, mark-sealed, seal-each, answered, mark-var, reply, tick, after, empty, session}
 use Rattle.meaning.specs.Path.{In, Act, makes, gives, uses, if-so, act, acts}
-use Rattle.meaning.specs.Machine.{conf, schedule, visit}
+use Rattle.meaning.specs.Machine.{conf, schedule, visit, turns}
 use Rattle.meaning.specs.Marks.{Given-to, Appended, Receives, Recorded-exactly, Defs-recorded, Defs-recorded-in-turn}
-use Rattle.meaning.proofs.Maps.{same?, bool?, eqb-same, eqb-eq, eqb-diff, false-true, and-both, put-at, put-other, put₂-is, some-none}
+use Rattle.meaning.proofs.Maps.{same?, eqb-same, eqb-eq, eqb-diff, false-true, and-both, put-at, put-other, put₂-is, some-none}
 use Rattle.meaning.proofs.Lists.{in-left, in-right, in-cases, in-one}
 use Rattle.meaning.proofs.Facts.{cur}
 use Rattle.meaning.proofs.Lacking.{Has, or-has}
@@ -27,8 +27,8 @@ use Rattle.meaning.proofs.Inv.{nought-param}
 use Rattle.meaning.proofs.Whole.{Fine, fine, acts-snoc, some-no, up-in}
 use Rattle.meaning.proofs.Sure.{Sure, sure, from-then}
 use Rattle.meaning.proofs.Answers.{run-last}
-use Rattle.meaning.proofs.Binding.{Stands, stands, Bound, New, Alone, Binds, binds-refl, bind-is, bind-still, bind-at, make-binds, read-binds, seal-binds, each-binds}
-use Rattle.meaning.proofs.Binding.{settled-binds, visit-binds, turns-bind}
+use Rattle.meaning.proofs.Binding.{Stands, stands, Bound, New, Alone, Binds, binds-refl, bind-is, bind-still, bind-at, make-binds, read-binds}
+use Rattle.meaning.proofs.Binding.{seal-binds, each-binds, settled-binds, visit-binds, turns-bind}
 
 -- what a marked variable was given is in the set, and what stands for it
 pub record Well (t : State) : Type 0 where
@@ -166,7 +166,8 @@ module _ (t : State) (h : Sure t) (c : Call) where
   -- a definition
   given-moves : (v x b : ℕ) → ((n d : ℕ) → act d (said 0 n) ≡ if-so (eqb b d) (gives v n)) → Moves (define g s v x b)
   given-moves v x b is =
-      check 6 (no-var g s v || no-value g s x || no-block g s b) _ λ _. check 7 (not (eqb (s .info x .type) (type-of g v))) _ λ _. check 20 (g .declared b) _ λ _.
+      check 6 (no-var g s v || no-value g s x || no-block g s b) _ λ _. check 7 (not (eqb (s .info x .type) (type-of g v))) _ λ _.
+      check 20 (g .declared b) _ λ _.
       record {
         marks = λ w e. e;
         entry = λ w d y q. q;
@@ -232,11 +233,13 @@ module _ (t : State) (h : Sure t) (c : Call) where
       defined b x (inr q) = or-has (s .own v b) x q
 
       nothing-stands : any (λ b. is-some (def s v b)) (upFrom 0 (g .blocks)) ≡ false → (b x : ℕ) → Stands (s .own) (s .entry) v b x → ⊥
-      nothing-stands e b x q = has-some (def s v b)
-          (some-no (λ d. is-some (def s v d)) (upFrom 0 (g .blocks)) e b (up-in (g .blocks) 0 b (omega arith) (omega (arith, there v b x q .0)))) (defined b x q)
+      nothing-stands e b x q =
+          let i = up-in (g .blocks) 0 b (omega arith) (omega (arith, there v b x q .0)) in
+          has-some (def s v b) (some-no (λ d. is-some (def s v d)) (upFrom 0 (g .blocks)) e b i) (defined b x q)
 
   -- of a kind that neither defines nor marks
-  plain : (k : ℕ) → c .kind ≡ k → eqb k 4 || eqb k 5 ≡ false → (n : ℕ) (g′ : Graph) (s′ : Form) → ((v : ℕ) → g′ .marks v ≡ g .marks v) → Binds g s s′ → Then 0 n g′ s′
+  plain : (k : ℕ) → c .kind ≡ k → eqb k 4 || eqb k 5 ≡ false → (n : ℕ) (g′ : Graph) (s′ : Form) → ((v : ℕ) → g′ .marks v ≡ g .marks v)
+      → Binds g s s′ → Then 0 n g′ s′
   plain k e z n = binding 0 n (mute k n e z)
 
   -- the kinds
@@ -293,7 +296,8 @@ module _ (t : State) (h : Sure t) (c : Call) where
   moves (suc (suc (suc (suc (suc (suc (suc (suc (suc (suc (suc (suc (suc (suc (suc (suc (suc zero))))))))))))))))) e = mark-moves (c .x) (mute 17 (c .x) e refl)
   moves (suc (suc (suc (suc (suc (suc (suc (suc (suc (suc (suc (suc (suc (suc (suc (suc (suc (suc k)))))))))))))))))) e = tt
 
-  moved-after : (r : Reply) → Fine ⊥ g s (t .done) (h .whole) c r → Moves r → (d : Done) × Moved t (after t c r) d × (after t c r .done ≡ t .done ∷ʳ d) × (d .asked ≡ c)
+  moved-after : (r : Reply) → Fine ⊥ g s (t .done) (h .whole) c r → Moves r
+      → (d : Done) × Moved t (after t c r) d × (after t c r .done ≡ t .done ∷ʳ d) × (d .asked ≡ c)
   moved-after (no k) n m = (said k 0, binding k 0 silent g s (λ v. refl) (binds-refl g s), refl, refl)
     where
       silent : Mute k 0
@@ -334,12 +338,15 @@ pub recorded-stays : (cs ds : List Call) (x : ℕ) → session cs .form .recorde
 recorded-stays cs ds x = onward (λ l. session l .form .recorded x ≡ true) (λ l c. went l c .moved .still x) ds cs
 
 pub well : (cs : List Call) → Well (session cs)
-well cs = onward (λ l. Well (session l)) (λ l c. went l c .moved .well) cs [] (record { bound = λ v b x m. absurd (false-true refl m); heard = λ v b x m. absurd (false-true refl m) })
+well cs = onward (λ l. Well (session l)) (λ l c. went l c .moved .well) cs []
+    (record { bound = λ v b x m. absurd (false-true refl m); heard = λ v b x m. absurd (false-true refl m) })
 
 -- a call more
 given-more : (cs : List Call) (c : Call) (v x : ℕ) → Given-to (session cs) v x → Given-to (session (cs ∷ʳ c)) v x
-given-more cs c v x k = let w = went cs c in
-    (k .0, rw (w .done, acts-snoc (k .0) (session cs .done) (w .answer)) (in-left (gives v x) (acts (k .0) (session cs .done)) (act (k .0) (w .answer)) (k .1)))
+given-more cs c v x k =
+    let w = went cs c in
+    let l = acts (k .0) (session cs .done) in
+    (k .0, rw (w .done, acts-snoc (k .0) (session cs .done) (w .answer)) (in-left (gives v x) l (act (k .0) (w .answer)) (k .1)))
 
 appended-more : (cs : List Call) (c : Call) (v x : ℕ) → Appended cs v x → Appended (cs ∷ʳ c) v x
 appended-more cs c v x a = record {
@@ -351,6 +358,9 @@ appended-more cs c v x a = record {
   causes = a .causes;
 }
 
+appended-parts : (cs : List Call) (v x : ℕ) (a : Appended cs v x) → (a .before ∷ʳ a .call) ++ a .after ≡ cs
+appended-parts cs v x a = append-assoc (a .before) (a .call ∷ []) (a .after) ∙ sym (a .parts)
+
 -- who is in the set is there for a reason
 abbrev Sourced : List Call → Type 0
 Sourced cs = (x : ℕ) → session cs .form .recorded x ≡ true → (v : ℕ) × (session cs .graph .marks v ≡ true) × Receives cs v x
@@ -358,16 +368,27 @@ Sourced cs = (x : ℕ) → session cs .form .recorded x ≡ true → (v : ℕ) �
 sourced-more : (cs : List Call) (c : Call) → Sourced cs → Sourced (cs ∷ʳ c)
 sourced-more cs c S x q = elim (m .new x q) [
   | inl i ↦ let k = S x i in (k .0, m .marks (k .0) (k .1), more (k .0) (k .2))
-  | inr (inl i) ↦ (i .3 .0, m .marks (i .3 .0) (i .3 .1), inr (record {
-    before = cs;
-    call = c;
-    after = [];
-    parts = refl;
-    new = i .0;
-    causes = record { below = i .1; sort = i .2; home = refl; entry = i .3 .2 };
-  }))
-  | inr (inr i) ↦ (i .0, m .marks (i .0) (i .2), inl (i .1, rw (w .done, acts-snoc (i .1) (session cs .done) (w .answer))
-      (in-right (gives (i .0) x) (acts (i .1) (session cs .done)) (act (i .1) (w .answer)) (i .3))))
+  | inr (inl i) ↦ (
+    i .3 .0,
+    m .marks (i .3 .0) (i .3 .1),
+    inr (record {
+      before = cs;
+      call = c;
+      after = [];
+      parts = refl;
+      new = i .0;
+      causes = record { below = i .1; sort = i .2; home = refl; entry = i .3 .2 };
+    }),
+  )
+  | inr (inr i) ↦ (
+    i .0,
+    m .marks (i .0) (i .2),
+    inl (
+      i .1,
+      rw (w .done, acts-snoc (i .1) (session cs .done) (w .answer))
+          (in-right (gives (i .0) x) (acts (i .1) (session cs .done)) (act (i .1) (w .answer)) (i .3)),
+    ),
+  )
 ]
   where
     w : Went cs c
@@ -391,4 +412,96 @@ exactly cs = record {
     all x v m (inr a) =
         let b = session (a .before ∷ʳ a .call) .form .info x .home in
         let e = entries-stay (a .before ∷ʳ a .call) (a .after) v b x (a .causes .entry) in
-        well cs .bound v b x m (inr (subst (λ (l : List Call). session l .form .entry v b ≡ some x) (append-assoc (a .before) (a .call ∷ []) (a .after) ∙ sym (a .parts)) e))
+        well cs .bound v b x m (inr (subst (λ (l : List Call). session l .form .entry v b ≡ some x) (appended-parts cs v x a) e))
+
+-- ---- what follows
+
+-- two places in a list are the same, or one comes before the other
+abbrev Before : (List Call × Call) → List Call → Type 0
+Before p cs = (r : List Call) × (cs ≡ (p .0 ∷ʳ p .1) ++ r)
+
+places : (us vs : List Call) (c d : Call) (rs qs : List Call) → us ++ c ∷ rs ≡ vs ++ d ∷ qs
+    → ((us ≡ vs) × (c ≡ d)) ⊎ (Before (us, c) vs ⊎ Before (vs, d) us)
+places [] [] c d rs qs e = inl (refl, cc)
+places [] (v ∷ vs) c d rs qs e = let q : c ≡ v = cc in inr (inl (vs, ap {B = List Call} (λ a. a ∷ vs) (sym q)))
+places (u ∷ us) [] c d rs qs e = let q : d ≡ u = cc in inr (inr (us, ap {B = List Call} (λ a. a ∷ us) (sym q)))
+places (u ∷ us) (v ∷ vs) c d rs qs e = let q : u ≡ v = cc in let k : us ++ c ∷ rs ≡ vs ++ d ∷ qs = cc in on q (places us vs c d rs qs k)
+  where
+    on : u ≡ v → ((us ≡ vs) × (c ≡ d)) ⊎ (Before (us, c) vs ⊎ Before (vs, d) us)
+        → ((u ∷ us ≡ v ∷ vs) × (c ≡ d)) ⊎ (Before (u ∷ us, c) (v ∷ vs) ⊎ Before (v ∷ vs, d) (u ∷ us))
+    on q (inl k) = inl (ap {B = List Call} (λ a. a ∷ us) q ∙ ap {B = List Call} (λ l. v ∷ l) (k .0), k .1)
+    on q (inr (inl k)) = inr (inl (k .0, ap {B = List Call} (λ a. a ∷ vs) (sym q) ∙ ap {B = List Call} (λ l. u ∷ l) (k .1)))
+    on q (inr (inr k)) = inr (inr (k .0, ap {B = List Call} (λ a. a ∷ us) q ∙ ap {B = List Call} (λ l. v ∷ l) (k .1)))
+
+-- a parameter is appended for one variable
+pub one-appended : (cs : List Call) (v w x : ℕ) → Appended cs v x → Appended cs w x → v ≡ w
+one-appended cs v w x a b = elim (places (a .before) (b .before) (a .call) (b .call) (a .after) (b .after) (sym (a .parts) ∙ b .parts)) [
+  | inl k ↦ together (ap {B = List Call} (λ l. l ∷ʳ a .call) (k .0) ∙ ap {B = List Call} (λ c. b .before ∷ʳ c) (k .1))
+  | inr (inl k) ↦ absurd (later a b (k .0) (k .1))
+  | inr (inr k) ↦ absurd (later b a (k .0) (k .1))
+]
+  where
+    -- x was there once the first call was done, so a later one did not append it
+    later : {u r : ℕ} (p : Appended cs u x) (q : Appended cs r x) (l : List Call) → q .before ≡ (p .before ∷ʳ p .call) ++ l → ⊥
+    later p q l e = omega (
+      arith,
+      p .causes .below,
+      from-then (p .before ∷ʳ p .call) l .more,
+      subst (λ (i : List Call). session i .form .next ≤ x) e (q .new),
+    )
+
+    together : a .before ∷ʳ a .call ≡ b .before ∷ʳ b .call → v ≡ w
+    together e = went (a .before) (a .call) .moved .one v w _ _ x (a .new) (a .causes .entry)
+        (subst (λ (l : List Call). session l .form .entry w (session (b .before ∷ʳ b .call) .form .info x .home) ≡ some x) (sym e) (b .causes .entry))
+
+-- a zero is in the set only where it was given
+pub zeros-given : (cs : List Call) (z : ℕ) → session cs .form .recorded z ≡ true → session cs .form .info z .sort ≡ nought
+    → (v : ℕ) × (session cs .graph .marks v ≡ true) × Given-to (session cs) v z
+zeros-given cs z q n = let k = exactly cs .only z q in (k .0, k .1, by (k .0) (k .2))
+  where
+    by : (v : ℕ) → Receives cs v z → Given-to (session cs) v z
+    by v (inl g) = g
+    by v (inr a) =
+        let then = a .before ∷ʳ a .call in
+        let kept = from-then then (a .after) .info z (a .causes .below) in
+        let i = subst (λ (l : List Call). session l .form .info z ≡ session then .form .info z) (appended-parts cs v z a) kept in
+        absurd (nought-param n (ap (λ (j : Info). j .sort) i ∙ a .causes .sort))
+
+-- a call that is no definition adds no value that was there before it
+pub copies-add-nothing : (cs : List Call) (c : Call) → c .kind ≢ 4 → c .kind ≢ 5 → (x : ℕ) → x < session cs .form .next
+    → session (cs ∷ʳ c) .form .recorded x ≡ true → session cs .form .recorded x ≡ true
+copies-add-nothing cs c n₄ n₅ x l q = elim (went cs c .moved .new x q) [
+  | inl i ↦ i
+  | inr (inl i) ↦ absurd (omega (arith, l, i .0))
+  | inr (inr i) ↦ let d = went cs c .answer in
+      absurd (false-true (rw (went cs c .asked, eqb-diff (c .kind) 4 n₄, eqb-diff (c .kind) 5 n₅) refl)
+      (and-both (eqb (d .code) 0) (eqb (d .asked .kind) 4 || eqb (d .asked .kind) 5) (gives-only (i .1) d (i .0) x (i .3)) .1))
+]
+
+-- ---- what stands for a marked variable
+
+defs-of : (g : Graph) (s : Form) → Bound (g .marks) (s .own) (s .entry) (s .recorded) → Defs-recorded g s
+defs-of g s B v b x m e = B v b x m (stands s v b x e)
+
+in-turn-of : (g : Graph) (s : Form) → Bound (g .marks) (s .own) (s .entry) (s .recorded) → Defs-recorded-in-turn g s
+in-turn-of g s B = record {
+  of-use = λ v b n.
+      let c = visit g v b [] [] s (def s v b) in
+      defs-of g (turns n g v c .form) (turns-bind g v n c .bound (visit-binds g v b [] [] s .bound B));
+  of-seal = λ b us w n.
+      let now = mark-sealed g b in
+      let s′ = settle-pending now b us (set-pending b [] s) in
+      let c = conf (schedule now (w .1) b []) [] s′ in
+      defs-of now (turns n now (w .0) c .form) (turns-bind now (w .0) n c .bound (settled-binds now b us (set-pending b [] s) .bound B));
+}
+
+pub defs-recorded : (cs : List Call) → Defs-recorded (session cs .graph) (session cs .form)
+defs-recorded cs = defs-of (session cs .graph) (session cs .form) (well cs .bound)
+
+-- also once the blocks bs are sealed in turn
+pub defs-recorded-in-turn : (cs : List Call) (bs : List ℕ)
+    → let r = seal-each bs (session cs .graph) (session cs .form) in Defs-recorded-in-turn (r .0) (r .1)
+defs-recorded-in-turn cs bs =
+    let q = seal-each bs (session cs .graph) (session cs .form) in
+    let r = each-binds bs (session cs .graph) (session cs .form) in
+    in-turn-of (q .0) (q .1) (λ v b x m. r .1 .bound (well cs .bound) v b x (sym (r .0 v) ∙ m))

@@ -1,21 +1,20 @@
--- Marks change nothing but the set of recorded values: no other test and no other table reads them, so every function of the definition does to a state without
--- marks what it does to the state itself. Assumes nothing.
+-- Marks change nothing but the set of recorded values: no other test and no other table reads them, so every function of the definition does to a state
+-- without marks what it does to the state itself. Assumes nothing.
 use Prim.Native.Nat.{ℕ, zero, suc}
-use mathlib.Core.Path.{_≡_, refl, sym, ap, _∙_, subst}
+use mathlib.Core.Path.{_≡_, refl, sym, ap, _∙_}
 use mathlib.Core.Logic.{_≢_, inl, inr}
 use mathlib.Core.Bool.{Bool, true, false, cond, not, _&&_, _||_}
 use mathlib.Core.Option.{Option, none, some}
 use mathlib.Core.List.{List, [], _∷_, _++_, map}
 use lib.Dec.{eqb, ltb, leb}
 use lib.ListN.{length, getD}
-use native.Mathlib.Omega.{arith}
 use Rattle.entity.specs.Types.{type-count}
 use Rattle.entity.specs.Limits.{limits}
 use Rattle.definition.specs.Base.{put, any, is-some, has, every, without, before, upFrom}
 use Rattle.definition.specs.Form.{Graph, Form, def, with-marks, with-recorded, with-args, with-blocks}
-use Rattle.definition.specs.Read.{Got, resolve, type-of, mark, mark-one, alias, place-block, feed, feed-all, new-param, wait, settle-left, single, Walk, on-to, past}
-use Rattle.definition.specs.Read.{walk, read-all, fill, begin, read-past, read-on, read, depth, set-pending, settle-pending}
-use Rattle.definition.specs.Session.{Call, Done, State, Reply, no, ok, refuse_when_else_, declared-anywhere, no-block, no-var, no-value, no-branch, declare-block}
+use Rattle.definition.specs.Read.{Got, resolve, type-of, mark, mark-one, alias, place-block, feed, feed-all, new-param, wait, settle-left, single, Walk}
+use Rattle.definition.specs.Read.{on-to, past, walk, read-all, fill, begin, read-past, read-on, read, depth, set-pending, settle-pending}
+use Rattle.definition.specs.Session.{Call, Done, State, Reply, no, ok, refuse_when_else_, declared-anywhere, no-block, no-var, no-value, no-branch}
 use Rattle.definition.specs.Session.{define, define-answer, mark-sealed, seal-form, seal-each, added, answered, reply, tick, after, step, run, empty, session}
 use Rattle.meaning.specs.Marks.{nothing, unmark, unmark-done, unmarked}
 use Rattle.meaning.proofs.Maps.{bool?, eqb-eq, false-true}
@@ -106,7 +105,8 @@ module _ (g : Graph) where
   settled-bare b [] s = refl
   settled-bare b (w ∷ ws) s =
       let v = w .0 in
-      ap (λ (r : Got). settle-pending (bare-graph g) b ws (r .1)) (fill-bare (read (depth g) g v) (read (depth g) (bare-graph g) v) (read-bare v (depth g)) b (w .1) s)
+      let one = fill-bare (read (depth g) g v) (read (depth g) (bare-graph g) v) (read-bare v (depth g)) b (w .1) s in
+      ap (λ (r : Got). settle-pending (bare-graph g) b ws (r .1)) one
       ∙ settled-bare b ws (fill (read (depth g) g v) g b (w .1) s .1)
 
 seal-bare : (g : Graph) (s : Form) (b : ℕ) → seal-form (bare-graph g) (bare s) b ≡ bare (seal-form g s b)
@@ -151,7 +151,8 @@ choose false r q r′ q′ e f = f
 module _ (g : Graph) (s : Form) (ds : List Done) (x y z : ℕ) where
   define-bare : (v a b : ℕ) → define (bare-graph g) (bare s) v a b ≡ bare-reply (define g s v a b)
   define-bare v a b =
-      check 6 (no-var g s v || no-value g s a || no-block g s b) _ _ (check 7 (not (eqb (s .info a .type) (type-of g v))) _ _ (check 20 (g .declared b) _ _ refl))
+      check 6 (no-var g s v || no-value g s a || no-block g s b) _ _
+      (check 7 (not (eqb (s .info a .type) (type-of g v))) _ _ (check 20 (g .declared b) _ _ refl))
 
   answer-bare : (v b : ℕ) (o : Option ℕ) → define-answer (bare-graph g) (bare s) v b o ≡ bare-reply (define-answer g s v b o)
   answer-bare v b none = refl
@@ -182,7 +183,8 @@ module _ (g : Graph) (s : Form) (ds : List Done) (x y z : ℕ) where
   reply-bare (suc (suc (suc (suc (suc (suc (suc (suc zero)))))))) n =
       check 6 (no-branch g s x || no-block g s y) _ _ (check 11 (declared-anywhere g x) _ _ (check 10 (leb (limits .dests) (length (g .dests x))) _ _ refl))
   reply-bare (suc (suc (suc (suc (suc (suc (suc (suc (suc zero))))))))) n =
-      check 6 (no-block g s x || no-branch g s y) _ _ (check 8 (g .sealed x) _ _ (check 13 (not (has x (g .dests y))) _ _ (check 12 (has y (g .preds x)) _ _ refl)))
+      check 6 (no-block g s x || no-branch g s y) _ _ (check 8 (g .sealed x) _ _
+      (check 13 (not (has x (g .dests y))) _ _ (check 12 (has y (g .preds x)) _ _ refl)))
   reply-bare (suc (suc (suc (suc (suc (suc (suc (suc (suc (suc zero)))))))))) n =
       check 6 (no-block g s x || no-branch g s y) _ _ (check 8 (g .sealed x) _ _ (check 13 (not (has y (g .preds x))) _ _ refl))
   reply-bare (suc (suc (suc (suc (suc (suc (suc (suc (suc (suc (suc zero))))))))))) n = check 6 (no-block g s x) _ _ (check 8 (g .sealed x) _ _

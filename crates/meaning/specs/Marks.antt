@@ -1,7 +1,7 @@
 -- Stack maps: which values are in the set, by the calls; what stands for a marked variable is in it; and marks change nothing else. Assumes nothing.
-use Prim.Native.Nat.{ℕ, _<_, _≤_}
+use Prim.Native.Nat.{ℕ, _≤_}
 use mathlib.Core.Path.{_≡_}
-use mathlib.Core.Logic.{_⊎_, _≢_}
+use mathlib.Core.Logic.{_⊎_}
 use mathlib.Core.Bool.{true, false}
 use mathlib.Core.Option.{some}
 use mathlib.Core.List.{List, [], _∷_, _++_, map}
@@ -11,7 +11,7 @@ use Rattle.definition.specs.Read.{set-pending, settle-pending}
 use Rattle.definition.specs.Session.{Call, Done, State, session, mark-sealed}
 use Rattle.meaning.specs.Path.{In, gives, acts}
 use Rattle.meaning.specs.Causes.{Causes-param}
-use Rattle.meaning.specs.Machine.{Conf, conf, schedule, visit, turns}
+use Rattle.meaning.specs.Machine.{conf, schedule, visit, turns}
 
 -- ---- who is in the set
 
