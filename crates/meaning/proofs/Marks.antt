@@ -18,7 +18,7 @@ use Rattle.definition.specs.Session.{Call, Done, State, Reply, no, ok, refuse_w
 use Rattle.definition.specs.Session.{define-answer, mark-sealed, seal-each, answered, mark-var, reply, tick, after, empty, session}
 use Rattle.meaning.specs.Path.{In, Act, makes, gives, uses, if-so, act, acts}
 use Rattle.meaning.specs.Machine.{conf, schedule, visit, turns}
-use Rattle.meaning.specs.Marks.{Given-to, Appended, Receives, Recorded-exactly, Defs-recorded, Defs-recorded-in-turn}
+use Rattle.meaning.specs.Marks.{Given-to, Appended, Receives, Recorded-exactly, Zeros-given, Copies-not-added, Defs-recorded, Defs-recorded-in-turn}
 use Rattle.meaning.proofs.Maps.{same?, eqb-same, eqb-eq, eqb-diff, false-true, and-both, put-at, put-other, put₂-is, some-none}
 use Rattle.meaning.proofs.Lists.{in-left, in-right, in-cases, in-one}
 use Rattle.meaning.proofs.Facts.{cur}
@@ -455,8 +455,7 @@ one-appended cs v w x a b = elim (places (a .before) (b .before) (a .call) (b .c
         (subst (λ (l : List Call). session l .form .entry w (session (b .before ∷ʳ b .call) .form .info x .home) ≡ some x) (sym e) (b .causes .entry))
 
 -- a zero is in the set only where it was given
-pub zeros-given : (cs : List Call) (z : ℕ) → session cs .form .recorded z ≡ true → session cs .form .info z .sort ≡ nought
-    → (v : ℕ) × (session cs .graph .marks v ≡ true) × Given-to (session cs) v z
+pub zeros-given : (cs : List Call) → Zeros-given cs
 zeros-given cs z q n = let k = exactly cs .only z q in (k .0, k .1, by (k .0) (k .2))
   where
     by : (v : ℕ) → Receives cs v z → Given-to (session cs) v z
@@ -468,9 +467,8 @@ zeros-given cs z q n = let k = exactly cs .only z q in (k .0, k .1, by (k .0) (k
         absurd (nought-param n (ap (λ (j : Info). j .sort) i ∙ a .causes .sort))
 
 -- a call that is no definition adds no value that was there before it
-pub copies-add-nothing : (cs : List Call) (c : Call) → c .kind ≢ 4 → c .kind ≢ 5 → (x : ℕ) → x < session cs .form .next
-    → session (cs ∷ʳ c) .form .recorded x ≡ true → session cs .form .recorded x ≡ true
-copies-add-nothing cs c n₄ n₅ x l q = elim (went cs c .moved .new x q) [
+pub copies-not-added : (cs : List Call) (c : Call) → Copies-not-added cs c
+copies-not-added cs c n₄ n₅ x l q = elim (went cs c .moved .new x q) [
   | inl i ↦ i
   | inr (inl i) ↦ absurd (omega (arith, l, i .0))
   | inr (inr i) ↦ let d = went cs c .answer in

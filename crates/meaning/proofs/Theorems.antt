@@ -1,7 +1,6 @@
 -- What is proved of the definition, one theorem after the other. Their words are in specs/, and each proof cites the one that shows it. Assumes nothing.
 use Prim.Native.Nat.{ℕ, _+_, _<_, _≤_}
 use mathlib.Core.Path.{_≡_}
-use mathlib.Core.Logic.{_≢_}
 use mathlib.Core.Bool.{true}
 use mathlib.Core.List.{List, _++_, map}
 use mathlib.Core.Option.{some}
@@ -11,7 +10,6 @@ use Rattle.definition.specs.Session.{Call, session, seal-each, answered}
 use Rattle.definition.specs.Resolve.{Resolved, targets}
 use Rattle.definition.specs.Read.{resolve}
 use Rattle.definition.specs.Base.{_∷ʳ_}
-use Rattle.definition.specs.Form.{nought}
 use Rattle.meaning.specs.Path.{Supposed, Counted, None-late, In, given, callers, Right, Mem, res, enter}
 use Rattle.meaning.specs.Bits.{Faithful-bits, Zeros-typed}
 use Rattle.meaning.specs.Turns.{Scheduled}
@@ -24,7 +22,7 @@ use Rattle.meaning.specs.Enough.{Enough}
 use Rattle.meaning.specs.Holds.{Holds}
 use Rattle.meaning.specs.Suppositions.{supposed?}
 use Rattle.meaning.specs.Needed.{Demand-3-but}
-use Rattle.meaning.specs.Marks.{Given-to, Appended, Recorded-exactly, Defs-recorded, Defs-recorded-in-turn, unmark, unmarked}
+use Rattle.meaning.specs.Marks.{Appended, Recorded-exactly, Zeros-given, Copies-not-added, Defs-recorded, Defs-recorded-in-turn, unmark, unmarked}
 use Rattle.meaning.proofs.Rooms.{fed-always, given-first, given-few, given-typed}
 use Rattle.meaning.proofs.Steady.{calls-count, logged}
 use Rattle.meaning.proofs.Turns.{scheduled, scheduled-all}
@@ -37,7 +35,7 @@ use Rattle.meaning.proofs.Suppositions.{supposed-sound, supposed-comple
 use Rattle.meaning.proofs.Needed.{needed}
 use Rattle.meaning.proofs.Timely.{timely}
 use Rattle.meaning.proofs.Brought.{brought}
-use Rattle.meaning.proofs.Marks.{exactly, one-appended, zeros-given, copies-add-nothing, recorded-stays, defs-recorded, defs-recorded-in-turn}
+use Rattle.meaning.proofs.Marks.{exactly, one-appended, zeros-given, copies-not-added, recorded-stays, defs-recorded, defs-recorded-in-turn}
 use Rattle.meaning.proofs.Unmarked.{marks-silent}
 
 -- ---- demand 3
@@ -160,14 +158,12 @@ pub appended-for-one : (cs : List Call) (v w x : ℕ) → Appended cs v x → Ap
 appended-for-one = one-appended
 
 -- So a zero is in the set only if a definition gave it to a marked variable.
-pub zeros-not-recorded : (cs : List Call) (z : ℕ) → session cs .form .recorded z ≡ true → session cs .form .info z .sort ≡ nought
-    → (v : ℕ) × (session cs .graph .marks v ≡ true) × Given-to (session cs) v z
+pub zeros-not-recorded : (cs : List Call) → Zeros-given cs
 zeros-not-recorded = zeros-given
 
 -- And a call that is no definition adds no value that was there before it, as those are that a walk copies or that a parameter becomes an alias of.
-pub copies-not-recorded : (cs : List Call) (c : Call) → c .kind ≢ 4 → c .kind ≢ 5 → (x : ℕ) → x < session cs .form .next
-    → session (cs ∷ʳ c) .form .recorded x ≡ true → session cs .form .recorded x ≡ true
-copies-not-recorded = copies-add-nothing
+pub copies-not-recorded : (cs : List Call) (c : Call) → Copies-not-added cs c
+copies-not-recorded = copies-not-added
 
 -- What is in the set stays there.
 pub recorded-for-good : (cs ds : List Call) (x : ℕ) → session cs .form .recorded x ≡ true → session (cs ++ ds) .form .recorded x ≡ true

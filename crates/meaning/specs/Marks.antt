@@ -1,12 +1,12 @@
 -- Stack maps: which values are in the set, by the calls; what stands for a marked variable is in it; and marks change nothing else. Assumes nothing.
-use Prim.Native.Nat.{ℕ, _≤_}
+use Prim.Native.Nat.{ℕ, _<_, _≤_}
 use mathlib.Core.Path.{_≡_}
-use mathlib.Core.Logic.{_⊎_}
+use mathlib.Core.Logic.{_⊎_, _≢_}
 use mathlib.Core.Bool.{true, false}
 use mathlib.Core.Option.{some}
 use mathlib.Core.List.{List, [], _∷_, _++_, map}
 use Rattle.definition.specs.Base.{Block, Variable, Value, _=?_, if_then_else_, _∷ʳ_}
-use Rattle.definition.specs.Form.{Graph, Form, def, with-marks, with-recorded}
+use Rattle.definition.specs.Form.{Graph, Form, nought, def, with-marks, with-recorded}
 use Rattle.definition.specs.Read.{set-pending, settle-pending}
 use Rattle.definition.specs.Session.{Call, Done, State, session, mark-sealed}
 use Rattle.meaning.specs.Path.{In, gives, acts}
@@ -37,6 +37,16 @@ Receives cs v x = Given-to (session cs) v x ⊎ Appended cs v x
 pub record Recorded-exactly (cs : List Call) : Type 0 where
   pub only : (x : Value) → session cs .form .recorded x ≡ true → (v : Variable) × (session cs .graph .marks v ≡ true) × Receives cs v x
   pub all : (x : Value) (v : Variable) → session cs .graph .marks v ≡ true → Receives cs v x → session cs .form .recorded x ≡ true
+
+-- so a zero is in the set only if it was given to a marked variable
+abbrev pub Zeros-given : List Call → Type 0
+Zeros-given cs = (z : Value) → session cs .form .recorded z ≡ true → session cs .form .info z .sort ≡ nought
+    → (v : Variable) × (session cs .graph .marks v ≡ true) × Given-to (session cs) v z
+
+-- and a call that is no definition adds no value that was there before it
+abbrev pub Copies-not-added : List Call → Call → Type 0
+Copies-not-added cs c = c .kind ≢ 4 → c .kind ≢ 5 → (x : Value) → x < session cs .form .next
+    → session (cs ∷ʳ c) .form .recorded x ≡ true → session cs .form .recorded x ≡ true
 
 -- ---- what stands for a marked variable is in the set
 
