@@ -17,7 +17,7 @@ use Rattle.definition.specs.Read.{read-all, fill, begin, read-past, read-on, re
 use Rattle.definition.specs.Session.{mark-sealed, seal-form, seal-each}
 use Rattle.meaning.specs.Path.{In}
 use Rattle.meaning.specs.Machine.{Task, look, finish, Conf, open-param, find, visit, turn, turns}
-use Rattle.meaning.proofs.Maps.{same?, put-same, put-other, put-at, put₂-at, put₂-other, put₂-is, here?, some-none, or-none}
+use Rattle.meaning.proofs.Maps.{bind-is, bind-still, bind-at, put-other, put-at, put₂-at, put₂-other, put₂-is, here?, some-none, or-none}
 use Rattle.meaning.proofs.Ranges.{mark-is}
 use Rattle.meaning.proofs.Inv.{Work}
 use Rattle.meaning.proofs.Growing.{grown}
@@ -91,19 +91,6 @@ module _ (g : Graph) where
           let v = k .3 .0 in
           let e = ap (λ (j : Info). u .entry v (j .home)) i ∙ q .entry v (t .info x .home) x (k .3 .2) in
           (k .0, le-trans (k .1) (q .more), ap (λ (j : Info). j .sort) i ∙ k .2, (v, k .3 .1, e))
-
--- ---- recording one value, where z says whether its variable is marked
-
-pub bind-is : (z : Bool) (x : ℕ) (r : ℕ → Bool) (y : ℕ) → cond {A = ℕ → Bool} z (put x true r) r y ≡ true → (r y ≡ true) ⊎ ((z ≡ true) × (y ≡ x))
-bind-is false x r y e = inl e
-bind-is true x r y e = elim (same? y x) [ inl q ↦ inr (refl, q) | inr n ↦ inl (sym (put-other x true r y n) ∙ e) ]
-
-pub bind-still : (z : Bool) (x : ℕ) (r : ℕ → Bool) (y : ℕ) → r y ≡ true → cond {A = ℕ → Bool} z (put x true r) r y ≡ true
-bind-still false x r y e = e
-bind-still true x r y e = elim (same? y x) [ inl q ↦ put-at x true r y q | inr n ↦ put-other x true r y n ∙ e ]
-
-pub bind-at : (z : Bool) (x : ℕ) (r : ℕ → Bool) → z ≡ true → cond {A = ℕ → Bool} z (put x true r) r x ≡ true
-bind-at z x r e = rw e (put-same x true r)
 
 -- ---- the small changes
 

@@ -19,7 +19,7 @@ use Rattle.definition.specs.Session.{define-answer, mark-sealed, seal-each, ans
 use Rattle.meaning.specs.Path.{In, Act, makes, gives, uses, if-so, act, acts}
 use Rattle.meaning.specs.Machine.{conf, schedule, visit, turns}
 use Rattle.meaning.specs.Marks.{Given-to, Appended, Receives, Recorded-exactly, Zeros-given, Copies-not-added, Defs-recorded, Defs-recorded-in-turn}
-use Rattle.meaning.proofs.Maps.{same?, eqb-same, eqb-eq, eqb-diff, false-true, and-both, put-at, put-other, put₂-is, some-none}
+use Rattle.meaning.proofs.Maps.{bind-is, bind-still, bind-at, same?, eqb-same, eqb-eq, eqb-diff, false-true, and-both, put-at, put-other, put₂-is, some-none}
 use Rattle.meaning.proofs.Lists.{in-left, in-right, in-cases, in-one}
 use Rattle.meaning.proofs.Facts.{cur}
 use Rattle.meaning.proofs.Lacking.{Has, or-has}
@@ -27,7 +27,7 @@ use Rattle.meaning.proofs.Inv.{nought-param}
 use Rattle.meaning.proofs.Whole.{Fine, fine, acts-snoc, some-no, up-in}
 use Rattle.meaning.proofs.Sure.{Sure, sure, from-then}
 use Rattle.meaning.proofs.Answers.{run-last}
-use Rattle.meaning.proofs.Binding.{Stands, stands, Bound, New, Alone, Binds, binds-refl, bind-is, bind-still, bind-at, make-binds, read-binds}
+use Rattle.meaning.proofs.Binding.{Stands, stands, Bound, New, Alone, Binds, binds-refl, make-binds, read-binds}
 use Rattle.meaning.proofs.Binding.{seal-binds, each-binds, settled-binds, visit-binds, turns-bind}
 
 -- what a marked variable was given is in the set, and what stands for it

@@ -44,6 +44,11 @@ stored-of g G B op k s r = let h = r .inv in let R = r .ranged in record {
   unused = h .aliased .fresh;
   info = λ x l. (R .valued .homes x l, R .valued .types x l);
   zeros = R .logs .noted;
+  marks = B .marked;
+  recorded = λ x e. elim (bool? (ltb x (s .next))) [
+    | inl l ↦ ltb-yes x (s .next) l
+    | inr n ↦ absurd (false-true (R .unborn x (ltb-no x (s .next) n)) e)
+  ];
   placed = R .logs .within;
   once = R .logs .once;
 }

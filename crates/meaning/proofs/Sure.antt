@@ -101,6 +101,7 @@ module _ (g : Graph) (s : Form) (ds : List Done) (w : Whole ⊥ g s ds) (h : Saf
               from = h .bounds .from;
               branches = λ p e. le-trans (h .bounds .branches p e) up;
               shut = λ b e. le-trans (h .bounds .shut b e) up;
+              marked = h .bounds .marked;
             }
 
             r′ : Ranged (with-blocks g (suc x)) s
@@ -128,6 +129,7 @@ module _ (g : Graph) (s : Form) (ds : List Done) (w : Whole ⊥ g s ds) (h : Saf
           from = h .bounds .from;
           branches = h .bounds .branches;
           shut = h .bounds .shut;
+          marked = λ v e. omega (arith, h .bounds .marked v e, more);
         })
         (wider-ranged g s (h .ranged) _ (omega arith) (omega (arith, more)) (omega arith) (λ b. refl)) (h .load) (later-refl s)
 
@@ -154,9 +156,24 @@ module _ (g : Graph) (s : Form) (ds : List Done) (w : Whole ⊥ g s ds) (h : Saf
     keep-define-at v b (some x) = keep-define v x b
 
     keep-mark : (v : ℕ) → Keep (mark-var g s v)
-    keep-mark v = check 6 (no-var g s v) _ λ _. check 19 (any (λ b. is-some (def s v b)) (upFrom 0 (g .blocks))) _ λ _.
+    keep-mark v = check 6 (no-var g s v) _ λ e₆. check 19 (any (λ b. is-some (def s v b)) (upFrom 0 (g .blocks))) _ λ _.
         let g′ = with-marks g (put v true (g .marks)) in
-        keep v g′ s refl (h .bounds) (wider-ranged g s (h .ranged) g′ (omega arith) (omega arith) (omega arith) (λ b. refl)) (h .load) (later-refl s)
+        keep v g′ s refl
+        (record {
+          few = h .bounds .few;
+          vars = h .bounds .vars;
+          typed = h .bounds .typed;
+          dests = h .bounds .dests;
+          aims = h .bounds .aims;
+          from = h .bounds .from;
+          branches = h .bounds .branches;
+          shut = h .bounds .shut;
+          marked = λ w e. elim (same? w v) [
+            | inl q ↦ rw q (leb-no (length (g .types)) v e₆)
+            | inr n ↦ h .bounds .marked w (sym (put-other v true (g .marks) w n) ∙ e)
+          ];
+        })
+        (wider-ranged g s (h .ranged) g′ (omega arith) (omega arith) (omega arith) (λ b. refl)) (h .load) (later-refl s)
 
     keep-branch : (b : ℕ) → Keep (new-branch g s b)
     keep-branch b = check 6 (no-block g s b) _ λ e₆. check 9 (g .branch b) _ λ _.
@@ -171,6 +188,7 @@ module _ (g : Graph) (s : Form) (ds : List Done) (w : Whole ⊥ g s ds) (h : Saf
           from = λ p d i. elim (same? p b) [ inl q ↦ put-at b true (g .branch) p q | inr n ↦ put-other b true (g .branch) p n ∙ h .bounds .from p d i ];
           branches = λ p e. elim (same? p b) [ inl q ↦ rw q lb | inr n ↦ h .bounds .branches p (sym (put-other b true (g .branch) p n) ∙ e) ];
           shut = h .bounds .shut;
+          marked = h .bounds .marked;
         })
         (wider-ranged g (place-block b s) (place-ranged g s (h .ranged) b lb) _ (omega arith) (omega arith) (omega arith) (λ d. refl)) (load-placed b)
         (later-refl s)
@@ -197,6 +215,7 @@ module _ (g : Graph) (s : Form) (ds : List Done) (w : Whole ⊥ g s ds) (h : Saf
           from = λ q d i. elim (put-in d p ds (g .dests) q i) [ inl k ↦ rw (k .0) br | inr j ↦ h .bounds .from q d j ];
           branches = h .bounds .branches;
           shut = h .bounds .shut;
+          marked = h .bounds .marked;
         })
         (wider-ranged g s (h .ranged) _ (omega arith) (omega arith) (omega arith) (λ d. refl)) (h .load) (later-refl s)
 
@@ -356,6 +375,7 @@ empty-sure = record {
       from = λ p b i. absurd i;
       branches = λ p e. absurd (false-true refl e);
       shut = λ b e. absurd (false-true refl e);
+      marked = λ v e. absurd (false-true refl e);
     };
     ranged = record {
       valued = record { closed = λ x l. absurd (not-suc-le-zero l); homes = λ x l. absurd (not-suc-le-zero l); types = λ x l. absurd (not-suc-le-zero l) };
@@ -363,6 +383,7 @@ empty-sure = record {
       logs = record { noted = λ z i. absurd i; once = tt; within = λ b i. absurd i };
       caused = record { param-of = λ x l. absurd (not-suc-le-zero l); zero-of = λ z l. absurd (not-suc-le-zero l) };
       still = λ b z. refl;
+      unborn = λ x l. refl;
     };
     load =
         let k = all-le (empty .form) in

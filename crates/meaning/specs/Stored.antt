@@ -40,6 +40,9 @@ pub record Stored (g : Graph) (s : Form) : Type 0 where
   pub info : (x : Value) → x < s .next → (s .info x .home < g .blocks) × (s .info x .type < type-count)
   -- the zero log: a call, at most the present one, and a block
   pub zeros : (z : ℕ × Block) → In z (s .zeros) → (z .0 ≤ g .call) × (z .1 < g .blocks)
+  -- stack maps: marked variables, recorded values
+  pub marks : (v : Variable) → g .marks v ≡ true → v < length (g .types)
+  pub recorded : (x : Value) → s .recorded x ≡ true → x < s .next
   -- blocks placed, each once
   pub placed : (b : Block) → In b (s .placed) → b < g .blocks
   pub once : Nodup (s .placed)
