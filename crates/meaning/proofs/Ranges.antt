@@ -63,7 +63,7 @@ pub record Ranged (g : Graph) (s : Form) : Type 0 where
   pub logs : Logs (g .call) (g .blocks) (s .zeros) (s .placed)
   pub caused : Caused g s
   pub still : (b : ℕ) → g .sealed b ≡ true → s .pending b ≡ []
-  pub unborn : (x : ℕ) → s .next ≤ x → s .recorded x ≡ false
+  pub unrecorded : (x : ℕ) → s .next ≤ x → s .recorded x ≡ false
 
 pub def-below : (g : Graph) (s : Form) → Ranged g s → (w b e : ℕ) → def s w b ≡ some e → e < s .next
 def-below g s h w b e q = by (s .own w b) refl q
@@ -167,7 +167,7 @@ module _ (g : Graph) (s : Form) (h : Ranged g s) where
     };
     caused = wider-caused (h .caused) (length (g′ .types)) ty;
     still = λ b z. h .still b (sym (se b) ∙ z);
-    unborn = h .unborn;
+    unrecorded = h .unrecorded;
   }
 
   pub place-ranged : (b : ℕ) → b < g .blocks → Ranged g (place-block b s)
@@ -177,7 +177,7 @@ module _ (g : Graph) (s : Form) (h : Ranged g s) where
     logs = placed-logs (g .call) (g .blocks) (s .zeros) (s .placed) (h .logs) b lb;
     caused = h .caused;
     still = h .still;
-    unborn = h .unborn;
+    unrecorded = h .unrecorded;
   }
 
   pub make-ranged : (m y b : ℕ) → b < g .blocks → y < type-count → s .target (s .next) ≡ s .next
@@ -188,7 +188,7 @@ module _ (g : Graph) (s : Form) (h : Ranged g s) where
     logs = placed-logs (g .call) (g .blocks) (s .zeros) (s .placed) (h .logs) b lb;
     caused = new-caused (h .caused) (record { sort = made; type = y; home = b }) (λ q. absurd (made-param q)) (λ q. absurd (made-nought q));
     still = h .still;
-    unborn = λ x l. h .unborn x (omega arith);
+    unrecorded = λ x l. h .unrecorded x (omega arith);
   }
     where
       made-param : _≡_ {A = Sort} made param → ⊥
@@ -206,7 +206,7 @@ module _ (g : Graph) (s : Form) (h : Ranged g s) where
     logs = h .logs;
     caused = new-caused (h .caused) (record { sort = caller; type = y; home = b }) (λ q. absurd (caller-param refl q)) (λ q. absurd (caller-nought q));
     still = h .still;
-    unborn = λ x l. h .unborn x (omega arith);
+    unrecorded = λ x l. h .unrecorded x (omega arith);
   }
     where
       caller-nought : _≡_ {A = Sort} caller nought → ⊥
@@ -230,7 +230,7 @@ module _ (g : Graph) (s : Form) (h : Ranged g s) where
     logs = h .logs;
     caused = h .caused;
     still = h .still;
-    unborn = h .unborn;
+    unrecorded = h .unrecorded;
   }
 
   pub write-ranged : (v b x : ℕ) → v < length (g .types) → b < g .blocks → x < s .next → Ranged g (record-binding g v x (write v b x s))
@@ -247,7 +247,7 @@ module _ (g : Graph) (s : Form) (h : Ranged g s) where
     logs = h .logs;
     caused = h .caused;
     still = h .still;
-    unborn = λ y l. bind-other (g .marks v) x (s .recorded) y (omega arith) ∙ h .unborn y l;
+    unrecorded = λ y l. bind-other (g .marks v) x (s .recorded) y (omega arith) ∙ h .unrecorded y l;
   }
 
   pub mark-ranged : (v x : ℕ) (bs : List ℕ) → x < s .next → Grow s (mark v x bs s) → Ranged g (mark v x bs s)
@@ -261,7 +261,7 @@ module _ (g : Graph) (s : Form) (h : Ranged g s) where
     logs = h .logs;
     caused = entered-caused (h .caused) (mark v x bs s .entry) (up .entry);
     still = h .still;
-    unborn = h .unborn;
+    unrecorded = h .unrecorded;
   })
 
   -- a new parameter for v on c, where ws waits afterwards
@@ -279,7 +279,7 @@ module _ (g : Graph) (s : Form) (h : Ranged g s) where
     caused = new-caused (entered-caused (h .caused) (put₂ v c (some (s .next)) (s .entry)) (up .entry)) new
         (λ _. (v, lv, put₂-at v c (some (s .next)) (s .entry) v c refl refl)) (λ q. absurd (nought-param q refl));
     still = quiet;
-    unborn = λ y l. bind-other (g .marks v) (s .next) (s .recorded) y (omega arith) ∙ h .unborn y (omega arith);
+    unrecorded = λ y l. bind-other (g .marks v) (s .next) (s .recorded) y (omega arith) ∙ h .unrecorded y (omega arith);
   }
     where
       new : Info
@@ -313,7 +313,7 @@ module _ (g : Graph) (s : Form) (h : Ranged g s) where
         caused = new-caused (aliased-caused (h .caused) x (s .next) (par .root)) new (λ q. absurd (nought-param refl q))
             (λ _. (x, par .below, par .sort, par .home, put-same x (s .next) (s .target)));
         still = h .still;
-        unborn = λ y l. h .unborn y (omega arith);
+        unrecorded = λ y l. h .unrecorded y (omega arith);
       },
       omega arith,
     )
@@ -336,7 +336,7 @@ module _ (g : Graph) (s : Form) (h : Ranged g s) where
         logs = h .logs;
         caused = aliased-caused (h .caused) x y (par .root);
         still = h .still;
-        unborn = h .unborn;
+        unrecorded = h .unrecorded;
       },
       ly,
     )
@@ -353,7 +353,7 @@ module _ (g : Graph) (s : Form) (h : Ranged g s) where
         logs = h .logs;
         caused = h .caused;
         still = h .still;
-        unborn = h .unborn;
+        unrecorded = h .unrecorded;
       },
       par .below,
     )

@@ -114,7 +114,7 @@ module _ (g : Graph) (G : Sound g) (B : Bounds g) (b : ℕ) (lb : b < g .blocks)
         | inl q ↦ put-at b [] (s .pending) c q
         | inr n ↦ put-other b [] (s .pending) c n ∙ h .ranged .still c (sym (put-other b true (g .sealed) c n) ∙ z)
       ];
-      unborn = h .ranged .unborn;
+      unrecorded = h .ranged .unrecorded;
     };
     load =
         let w = waiting-put (s .pending) b [] (le-trans lb (B .few)) in

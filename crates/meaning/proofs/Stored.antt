@@ -40,15 +40,12 @@ stored-of g G B op k s r = let h = r .inv in let R = r .ranged in record {
   sealed = B .shut;
   settled = R .still;
   types = B .typed;
+  marks = B .marked;
   targets = R .valued .closed;
   unused = h .aliased .fresh;
+  unrecorded = R .unrecorded;
   info = λ x l. (R .valued .homes x l, R .valued .types x l);
   zeros = R .logs .noted;
-  marks = B .marked;
-  recorded = λ x e. elim (bool? (ltb x (s .next))) [
-    | inl l ↦ ltb-yes x (s .next) l
-    | inr n ↦ absurd (false-true (R .unborn x (ltb-no x (s .next) n)) e)
-  ];
   placed = R .logs .within;
   once = R .logs .once;
 }

@@ -383,7 +383,7 @@ empty-sure = record {
       logs = record { noted = λ z i. absurd i; once = tt; within = λ b i. absurd i };
       caused = record { param-of = λ x l. absurd (not-suc-le-zero l); zero-of = λ z l. absurd (not-suc-le-zero l) };
       still = λ b z. refl;
-      unborn = λ x l. refl;
+      unrecorded = λ x l. refl;
     };
     load =
         let k = all-le (empty .form) in
