@@ -213,7 +213,7 @@ module _ (g : Graph) (s : Form) where
       refuse 7 when not (s .info x .type =? s .info (getD (s .params d) n 0) .type) else
       ok n g (with-args s (put₂ p i (s .args p i ∷ʳ x) (s .args)))
 
-  -- kind 17: marked before it has a definition, a variable has all of them recorded
+  -- kind 17: stack maps must have what v receives; marked before it has any definition, so that none is missed
   abbrev pub mark-var : Variable → Reply
   mark-var v =
       refuse 6 when no-var v else

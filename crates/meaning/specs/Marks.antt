@@ -20,7 +20,7 @@ abbrev pub Given-to : State → Variable → Value → Type 0
 Given-to t v x = (b : Block) × In (gives v x) (acts b (t .done))
 
 -- A call of the list appended x as v's parameter: before it there was no value x, and after it x is a parameter of the builder's and stands for v where its
--- block begins. No other variable has x there then, since a call that appends gives none (`appended-for-one`).
+-- block begins. By then no other variable can have been given x, so x stands for v alone (`appended-for-one`).
 pub record Appended (cs : List Call) (v : Variable) (x : Value) : Type 0 where
   pub before : List Call
   pub call : Call
