@@ -73,6 +73,7 @@ module _ {gl fl : List ℕ} {c : Counts} {t : State} (h : Showing gl fl c t) whe
       shows = record { cells = shown; next = h .leaves .form .next };
       room = make-room t (h .sure) room;
       fresh = h .sure .whole .inv .aliased .fresh (t .form .next) (omega arith);
+      unrecorded = h .sure .safe .ranged .unrecorded (t .form .next) (omega arith);
     }
 
   -- ---- caller's parameters and their arguments
@@ -96,6 +97,7 @@ module _ {gl fl : List ℕ} {c : Counts} {t : State} (h : Showing gl fl c t) whe
           shows = record { cells = shown; next = h .leaves .form .next };
           room = make-room t (h .sure) room;
           fresh = h .sure .whole .inv .aliased .fresh (t .form .next) (omega arith);
+          unrecorded = h .sure .safe .ranged .unrecorded (t .form .next) (omega arith);
         };
         known = lb;
         row = own-room t (h .sure) b (q .0) (q .1) few .1;
