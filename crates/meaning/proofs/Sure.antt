@@ -1,4 +1,4 @@
--- What holds after every list of calls, with no supposition: each of the sixteen kinds of call keeps it. Assumes nothing.
+-- What holds after every list of calls, with no supposition: each of the seventeen kinds of call keeps it. Assumes nothing.
 use Prim.Native.Nat.{ℕ, zero, suc, _<_, _≤_}
 use mathlib.Core.Path.{_≡_, refl, sym, _∙_}
 use mathlib.Core.Logic.{_⊎_, inl, inr}

@@ -1,4 +1,4 @@
--- Each call keeps the invariant of a session: by the sixteen kinds, of which most change one table. Assumes nothing.
+-- Each call keeps the invariant of a session: by the seventeen kinds, of which most change one table. Assumes nothing.
 use Prim.Native.Nat.{ℕ, zero, suc, _+_, _<_, _≤_}
 use mathlib.Core.Path.{_≡_, refl, sym, ap, _∙_, subst}
 use mathlib.Core.Logic.{_≢_, _⊎_, inl, inr}

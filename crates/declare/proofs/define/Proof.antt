@@ -150,9 +150,11 @@ record-stack-map-binding-requires c κs =
     let e3 = c .before .before .before .before .before .before .before .before .before .before .before .before in
     let e2 = e3 .before .before in
     let e1 = e2 .before .before in
-    let p = e1 .before .before .before .before .pre in
-    (_, has-written (p .1) _ _ _ (rw (← p .1 .leaves .form .next) (e2 .if2 .left))
-    (c .before .before .before .before .record-def .ensures .own _ (has-def (p .1) _ _ (e1 .before .no-var .ensures .0 (e1 .if1 .left)) (e3 .before .no-block .ensures .0 (e3 .if3 .left)))))
+    let p = e1 .before .before .before .before .pre in (
+      _,
+      has-written (p .1) _ _ _ (rw (← p .1 .leaves .form .next) (e2 .if2 .left))
+          (c .before .before .before .before .record-def .ensures .own _ (has-def (p .1) _ _ (e1 .before .no-var .ensures .0 (e1 .if1 .left)) (e3 .before .no-block .ensures .0 (e3 .if3 .left)))),
+    )
 
 returns-6 : tie.Need-returns-6
 returns-6 c =

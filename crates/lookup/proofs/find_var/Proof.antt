@@ -49,9 +49,11 @@ returns-2 c = λ g s ts rs h.
 
 push-pending-requires : tie.Need-push-pending-requires
 push-pending-requires c κs =
-    let p = c .before .before .before .before .before .before .before .before .before .before .before .before .before .before .before .before .before .before .before .before .before .before .before .before .pre in
-    (_, wait-can (p .4) (c .before .before .before .before .before .before .before .before .before .before .before .before .before .before .before .before .before .before .before .walk .ensures _ _ (walk-can (p .4 .asks))) (c .before .before .before .before .before .before .before .before .before .before .before .before .before .before .before .before .enum-told .given .1) (c .before .before .before .before .before .before .before .before .before .before .before .before .before .before .append-block-param .ensures) (c .before .before .before .before .before .before .before .before .before .before .record-def .ensures)
-    (c .before .before .before .before .before .before .is-marked .ensures) (c .before .before .before .before .before .record-stack-map-binding .ensures))
+    let p = c .before .before .before .before .before .before .before .before .before .before .before .before .before .before .before .before .before .before .before .before .before .before .before .before .pre in (
+      _,
+      wait-can (p .4) (c .before .before .before .before .before .before .before .before .before .before .before .before .before .before .before .before .before .before .before .walk .ensures _ _ (walk-can (p .4 .asks))) (c .before .before .before .before .before .before .before .before .before .before .before .before .before .before .before .before .enum-told .given .1) (c .before .before .before .before .before .before .before .before .before .before .before .before .before .before .append-block-param .ensures) (c .before .before .before .before .before .before .before .before .before .before .record-def .ensures)
+          (c .before .before .before .before .before .before .is-marked .ensures) (c .before .before .before .before .before .record-stack-map-binding .ensures),
+    )
 
 push-result-requires-2 : tie.Need-push-result-requires-2
 push-result-requires-2 c κs =
