@@ -15,7 +15,7 @@ extern "C" {
 #endif
 
 /* The interface that this header is for. Ask sangvireb_fits() once before anything else. */
-enum { SANGVIREB_VERSION = 2 };
+enum { SANGVIREB_VERSION = 3 };
 
 /* Limits, and the lengths that the three lists of tables need. The answers need a cell a call. */
 enum {
@@ -24,7 +24,7 @@ enum {
     SANGVIREB_DESTS = 8,
     SANGVIREB_MADE = 4096,
     SANGVIREB_CALLS = 16384,
-    SANGVIREB_GRAPH_NEED = 4930,
+    SANGVIREB_GRAPH_NEED = 4994,
     SANGVIREB_FORM_NEED = 78533,
     SANGVIREB_WORK_NEED = 1665
 };
@@ -35,9 +35,10 @@ enum {
     SANGVIREB_TYPES = 1,
     SANGVIREB_BRANCHES = 66,
     SANGVIREB_SEALED = 130,
-    SANGVIREB_DEST_ROWS = 194,
+    SANGVIREB_EVER_DECLARED = 194,
+    SANGVIREB_DEST_ROWS = 258,
     SANGVIREB_DEST_ROW = 9,
-    SANGVIREB_PRED_ROWS = 770,
+    SANGVIREB_PRED_ROWS = 834,
     SANGVIREB_PRED_ROW = 65
 };
 
@@ -111,7 +112,8 @@ enum {
     SANGVIREB_DECLARED = 11,
     SANGVIREB_DECLARED_HERE = 12,
     SANGVIREB_NO_EDGE = 13,
-    SANGVIREB_NO_END = 14
+    SANGVIREB_NO_END = 14,
+    SANGVIREB_LATE = 20 /* a definition in a block whose branch was declared before, even if it was removed since */
 };
 
 /* Codes of a drawing, beside 0 and SANGVIREB_SHORT for a table shorter than its need. */

@@ -58,7 +58,7 @@ impl Both {
         if let Err(why) = self.expected.read(&told.dump, calls.len()) {
             return Some(why);
         }
-        self.expected.types(calls);
+        self.expected.accepted(calls);
         self.differing_cell().or_else(|| self.differing_row()).or_else(|| self.differing_bits(calls))
     }
 

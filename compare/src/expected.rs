@@ -106,11 +106,13 @@ impl Expected {
         self.form[ZERO_BLOCKS] = zeros as u32;
     }
 
-    /// The dump has no types of variables: they follow from the calls that were accepted.
-    pub fn types(&mut self, calls: &[lists::Call]) {
-        for (call, code) in calls.iter().zip(&self.codes) {
-            if call[0] == 2 && *code == 0 {
-                self.graph[TYPES + 1 + call[1] as usize] = call[2];
+    /// The dump has no types of variables, nor which branches were ever declared: both follow from the calls that were accepted.
+    pub fn accepted(&mut self, calls: &[lists::Call]) {
+        for (call, _) in calls.iter().zip(&self.codes).filter(|(_, code)| **code == 0) {
+            match *call {
+                [2, variable, ty, _] => self.graph[TYPES + 1 + variable as usize] = ty,
+                [9, _, branch, _] => self.graph[EVER_DECLARED + branch as usize] = 1,
+                _ => {}
             }
         }
     }

@@ -3,7 +3,7 @@ use crate::both::Both;
 use lists::{Call, MAX_CALLS};
 use sangvireb::raw::*;
 
-const CODES: usize = 14;
+const CODES: usize = 21;
 const KINDS: usize = 16;
 
 #[derive(Clone, Default)]

@@ -72,7 +72,7 @@ fn not_a_use(session: &Session, place: usize) -> Option<String> {
 
 /// Why the call was refused that found the session in this state.
 pub(crate) fn reason(before: &Session, call: [u32; 4], refusal: Refusal) -> String {
-    let [number, x, y, _] = call;
+    let [number, x, y, z] = call;
     let kind = Kind::from_number(number);
     let names_both = matches!(kind, Some(Kind::DeclareBlockPredecessor | Kind::RemoveBlockPredecessor));
     let (block, branch) = (Block(x), Branch(if names_both { y } else { x }));
@@ -96,6 +96,7 @@ pub(crate) fn reason(before: &Session, call: [u32; 4], refusal: Refusal) -> Stri
         Refusal::NoEdge if kind == Some(Kind::RemoveBlockPredecessor) => format!("{branch} is not declared to {block}"),
         Refusal::NoEdge => format!("{branch} leads to {}", leads_to(before, branch)),
         Refusal::NoEnd => refusal.to_string(),
+        Refusal::Late => format!("{} was declared before, so {} takes no more definitions", Branch(z), Block(z)),
     }
 }
 

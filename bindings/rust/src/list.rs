@@ -140,7 +140,8 @@ impl List {
         self.record(Kind::MakeValue, block.0, ty.number(), 0, Value)
     }
 
-    /// From here on the variable holds this value in this block.
+    /// From here on the variable holds this value in this block, whose branch was never declared: after that it is refused as
+    /// [`Late`](crate::Refusal::Late).
     pub fn def_var(&mut self, variable: Variable, value: Value, block: Block) -> Call<Value> {
         self.record(Kind::DefVar, variable.0, value.0, block.0, Value)
     }

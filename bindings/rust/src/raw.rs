@@ -6,7 +6,7 @@
 use crate::{library, Block, Branch, Kind, Sort, Type};
 
 /// The version of the library's calls that this package was written for.
-pub const VERSION: u32 = 2;
+pub const VERSION: u32 = 3;
 
 /// Blocks in a session.
 pub const BLOCKS: usize = 64;
@@ -41,8 +41,10 @@ pub const TYPES: usize = BLOCK_COUNT + 1;
 pub const BRANCHES: usize = TYPES + PARAM_ROW;
 /// In `graph`: which blocks are sealed.
 pub const SEALED: usize = BRANCHES + BLOCKS;
+/// In `graph`: which blocks' branches were ever declared, also those that were removed again.
+pub const EVER_DECLARED: usize = SEALED + BLOCKS;
 /// In `graph`: a row of destinations for each block.
-pub const DEST_ROWS: usize = SEALED + BLOCKS;
+pub const DEST_ROWS: usize = EVER_DECLARED + BLOCKS;
 /// In `graph`: a row of predecessors for each block.
 pub const PRED_ROWS: usize = DEST_ROWS + BLOCKS * DEST_ROW;
 /// Cells that `graph` needs.

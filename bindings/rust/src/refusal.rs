@@ -31,11 +31,13 @@ pub enum Refusal {
     NoEdge,
     /// Resolving an alias reaches no end.
     NoEnd,
+    /// A definition in a block whose branch was declared before, even if it was removed since.
+    Late = 20,
 }
 
 impl Refusal {
     /// All refusals, by code.
-    pub const ALL: [Refusal; 12] = [
+    pub const ALL: [Refusal; 13] = [
         Refusal::UnknownKind,
         Refusal::Full,
         Refusal::Skips,
@@ -48,6 +50,7 @@ impl Refusal {
         Refusal::DeclaredHere,
         Refusal::NoEdge,
         Refusal::NoEnd,
+        Refusal::Late,
     ];
 
     /// The code that the library gives.
@@ -76,6 +79,7 @@ impl fmt::Display for Refusal {
             Refusal::DeclaredHere => "the branch is already declared to this block",
             Refusal::NoEdge => "the branch doesn't lead to this block, or isn't declared to it",
             Refusal::NoEnd => "the chain of aliases has no end",
+            Refusal::Late => "the block's branch was declared before, so the block takes no more definitions",
         })
     }
 }

@@ -23,7 +23,7 @@ fn each_kind_has_its_answer() {
     let sealed = list.seal_block(next);
     let closed = list.is_sealed(next);
     let all = list.seal_all_blocks();
-    let kept = list.def_var_answer(FIRST, waits, start);
+    let kept = list.def_var_answer(FIRST, waits, next);
 
     let session = list.run().unwrap();
     assert_eq!(blocks.map(|call| session.answer(call)), [Ok(start), Ok(next)]);

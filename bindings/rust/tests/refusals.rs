@@ -78,6 +78,23 @@ fn what_comes_too_late() {
 }
 
 #[test]
+fn a_definition_after_the_branch_was_declared() {
+    let mut ssa = builder(2);
+    let value = ssa.make_value(Block(0), Type::I32).unwrap();
+    let wide = ssa.make_value(Block(0), Type::I64).unwrap();
+    let branch = ssa.new_branch(Block(0)).unwrap();
+    assert_eq!(ssa.new_dest(branch, Block(1)), Ok(0));
+    refused(&mut ssa, Refusal::NoEdge, |ssa| ssa.declare_block_predecessor(Block(0), branch));
+    assert_eq!(ssa.def_var(FIRST, value, Block(0)), Ok(value));
+    assert_eq!(ssa.declare_block_predecessor(Block(1), branch), Ok(1));
+    refused(&mut ssa, Refusal::Late, |ssa| ssa.def_var(FIRST, value, Block(0)));
+    refused(&mut ssa, Refusal::TypesDiffer, |ssa| ssa.def_var(FIRST, wide, Block(0)));
+    assert_eq!(ssa.remove_block_predecessor(Block(1), branch), Ok(0));
+    refused(&mut ssa, Refusal::Late, |ssa| ssa.def_var(FIRST, value, Block(0)));
+    assert_eq!(ssa.def_var(FIRST, value, Block(1)), Ok(value));
+}
+
+#[test]
 fn where_no_branch_leads() {
     let mut ssa = builder(2);
     let branch = branch(&mut ssa, 0, &[1]);
@@ -133,8 +150,8 @@ fn whole_sessions() {
 #[test]
 fn every_refusal_has_its_code_and_its_words() {
     let codes: Vec<u32> = Refusal::ALL.iter().map(|refusal| refusal.code()).collect();
-    assert!(codes.into_iter().eq(3..=14));
-    assert!([0, 1, 2, 15, u32::MAX].into_iter().all(|code| Refusal::from_code(code).is_none()));
+    assert!(codes.into_iter().eq((3..=14).chain([20])));
+    assert!([0, 1, 2, 15, 21, u32::MAX].into_iter().all(|code| Refusal::from_code(code).is_none()));
     let words: std::collections::BTreeSet<String> = Refusal::ALL.iter().map(|refusal| refusal.to_string()).collect();
     assert_eq!(words.len(), Refusal::ALL.len());
 }

@@ -134,11 +134,11 @@ fn alias_chain(rng: &mut Rng) -> Vec<Call> {
 
 /// A line of blocks, all parameters of which become one chain. In each block every variable is used, the last first; then the block before is told
 /// that variable k is what k - 1 was there, and variable 0 what the last one is one block earlier. Sealed from the end of the line, each parameter
-/// becomes an alias of the next before that is one itself.
+/// becomes an alias of the next before that is one itself. The line is declared after its definitions, which would come late otherwise.
 fn one_chain(blocks: u32, vars: u32, order: impl FnOnce(&mut [u32])) -> Vec<Call> {
     let mut calls = declared(blocks as usize - 1, vars as usize - 1);
     for b in 0..blocks - 1 {
-        calls.extend([[7, b, 0, 0], [8, b, b + 1, 0], [9, b + 1, b, 0]]);
+        calls.extend([[7, b, 0, 0], [8, b, b + 1, 0]]);
     }
     let first = calls.len() as u32;
     let answer = |b: u32, v: u32| first + b * vars + vars - 1 - v;
@@ -149,6 +149,7 @@ fn one_chain(blocks: u32, vars: u32, order: impl FnOnce(&mut [u32])) -> Vec<Call
         calls.push([5, 0, answer(b - 1, vars - 1), b - 1]);
         calls.extend((1..vars).map(|v| [5, v, answer(b, v - 1), b - 1]));
     }
+    calls.extend((1..blocks).map(|b| [9, b, b - 1, 0]));
     let mut seals: Vec<u32> = (0..blocks).rev().collect();
     order(&mut seals);
     calls.extend(seals.iter().map(|&b| [11, b, 0, 0]));

@@ -25,36 +25,22 @@ pub fn acts(session: &Finished) -> Vec<Vec<Act>> {
     acts
 }
 
-pub const SUPPOSITIONS: [&str; 5] = [
+pub const SUPPOSITIONS: [&str; 4] = [
     "every block is sealed",
     "no branch goes into block 0",
     "every branch is declared to each of its destinations",
-    "nothing is defined in a block once its branch was declared",
     "each definition takes a value made earlier in its own block, or answered to an earlier use there",
 ];
 
-/// Which of the five suppositions the session meets.
-pub fn supposed(session: &Finished) -> [bool; 5] {
+/// Which of the four suppositions the session meets.
+pub fn supposed(session: &Finished) -> [bool; 4] {
     let mut blocks = 0..session.blocks();
     [
         blocks.clone().all(|b| session.is_sealed(b)),
         blocks.clone().all(|p| !session.dests(p).contains(&0)),
         blocks.all(|p| session.dests(p).iter().all(|&b| session.preds(b).contains(&p))),
-        none_late(session),
         acts(session).iter().all(|acts| own_values(acts)),
     ]
-}
-
-fn none_late(session: &Finished) -> bool {
-    let mut declared = vec![false; session.blocks() as usize];
-    session.accepted().all(|(&[kind, _, y, z], _)| match kind {
-        9 => {
-            declared[y as usize] = true;
-            true
-        }
-        4 | 5 => !declared[z as usize],
-        _ => true,
-    })
 }
 
 fn own_values(acts: &[Act]) -> bool {
@@ -218,7 +204,7 @@ mod tests {
         let mut lent = Lent::new(1);
         assert_eq!(lent.run(&lists[0], &mut Rng::new(1)), 0);
         let session = Finished::of(&lists[0], &lent);
-        assert_eq!(supposed(&session), [true; 5]);
+        assert_eq!(supposed(&session), [true; 4]);
         let acts = acts(&session);
         let start = || Short { left: 3, contents: 0, wrong: 0 };
         let (mut at_once, mut in_turn) = (start(), start());

@@ -96,7 +96,7 @@ fn try_list(calls: &[Call], lent: &mut Lent, rng: &mut Rng, figures: &mut Figure
     let code = lent.run(calls, rng);
     assert_eq!(code, 0, "the list is run");
     let session = Finished::of(calls, lent);
-    if path::supposed(&session) != [true; 5] {
+    if path::supposed(&session) != [true; 4] {
         figures.unfit += 1;
         return None;
     }
@@ -134,7 +134,7 @@ pub fn run(lists: u64, seed: u64) -> ExitCode {
 
 fn summary(figures: &Figures) {
     let [made, params, zeros] = figures.uses;
-    println!("{} lists meet the five suppositions; {} more did not and were not walked", figures.lists, figures.unfit);
+    println!("{} lists meet the four suppositions; {} more did not and were not walked", figures.lists, figures.unfit);
     println!("{} paths through {} blocks, {} uses met on them", figures.paths, figures.blocks, made + params + zeros);
     println!("answers resolve to a made value {made} times, a parameter {params}, a zero {zeros}; {} were aliases", figures.aliases);
     let [unset, floats] = figures.unset;

@@ -5,6 +5,7 @@ ghost use Rattle.entity.specs.Options.{value-of};
 ghost use Rattle.definition.specs.Session.{declare-block, declare-var, make-value, define, define-answer, new-branch};
 ghost use Rattle.reply.specs.Replies.{Some-state, Answers};
 use entity::Block;
+use entity::Branch;
 use entity::OptionValue;
 use entity::Type;
 use entity::Value;
@@ -83,7 +84,7 @@ pub fn make_value(graph: &[u32], form: &mut [u32], c: Counts, x: u32, y: u32) ->
     reply::accept(c.values, d)
 }
 
-// Kind 4. The value is stored as it is, an alias too.
+// Kind 4. The value is stored as it is, an alias too. Uses beyond a branch that was declared have read the block's definitions, so it takes no more.
 pub fn define(graph: &[u32], form: &mut [u32], c: Counts, x: u32, y: u32, z: u32) -> Reply
     requires { ⌜ Some-state (now graph) (now form) c ⌝ }
     ensures { λ r. ⌜ Answers (now (graph .entry)) (now (form .entry)) (now (graph .entry)) (now (form .exit)) c r (λ g s. define g s x y z) ⌝ }
@@ -99,6 +100,9 @@ pub fn define(graph: &[u32], form: &mut [u32], c: Counts, x: u32, y: u32, z: u32
     }
     if form::value_type(form, Value(y)) != graph::variable_type(graph, Variable(x)) {
         return reply::refuse(reply::OTHER_TYPE, c);
+    }
+    if graph::ever_declared(graph, Branch(z)) {
+        return reply::refuse(reply::LATE, c);
     }
     form::record_def(form, Variable(x), Block(z), Value(y));
     reply::accept(y, c)

@@ -9,7 +9,10 @@ use Rattle.definition.specs.Session.{Call}
 abbrev call : ℕ → ℕ → ℕ → ℕ → Call
 call k x y z = record { kind = k; x = x; y = y; z = z }
 
--- the number of the type I32
+-- the numbers of the types I8 and I32
+abbrev pub i8 : ℕ
+i8 = 0
+
 abbrev pub i32 : ℕ
 i32 = 2
 
@@ -25,6 +28,10 @@ make-value b type = call 3 b type 0
 -- v is given x in b
 abbrev pub define : Variable → Value → Block → Call
 define v x b = call 4 v x b
+
+-- v is given the answer of call i in b
+abbrev pub define-answer : Variable → ℕ → Block → Call
+define-answer v i b = call 5 v i b
 
 abbrev pub use-var : Variable → Block → Call
 use-var v b = call 6 v b 0

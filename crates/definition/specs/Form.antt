@@ -15,6 +15,7 @@ pub record Graph : Type 0 where
   pub dests : Block → List Block  -- the blocks that the branch names, in order
   pub preds : Block → List Block  -- the branches declared to this block, in order
   pub sealed : Block → Bool
+  pub declared : Block → Bool  -- was this block's branch ever declared?
 
 pub data Sort : Type 0 where
   made param nought : Sort
@@ -43,32 +44,37 @@ abbrev pub def : Form → Variable → Block → Option Value
 def s v b = orElse (s .own v b) (s .entry v b)
 
 -- A record from its fields, in their order; and the record with one field changed.
-abbrev pub graph : ℕ → ℕ → List ℕ → (Block → Bool) → (Block → List Block) → (Block → List Block) → (Block → Bool) → Graph
-graph c n ts br ds ps sl = record { call = c; blocks = n; types = ts; branch = br; dests = ds; preds = ps; sealed = sl }
+abbrev pub graph : ℕ → ℕ → List ℕ → (Block → Bool) → (Block → List Block) → (Block → List Block) → (Block → Bool)
+    → (Block → Bool) → Graph
+graph c n ts br ds ps sl dc =
+    record { call = c; blocks = n; types = ts; branch = br; dests = ds; preds = ps; sealed = sl; declared = dc }
 
 module _ (g : Graph) where
-  open Graph g using (call, blocks, types, branch, dests, preds, sealed)
+  open Graph g using (call, blocks, types, branch, dests, preds, sealed, declared)
 
   abbrev pub with-call : ℕ → Graph
-  with-call new = graph new blocks types branch dests preds sealed
+  with-call new = graph new blocks types branch dests preds sealed declared
 
   abbrev pub with-blocks : ℕ → Graph
-  with-blocks new = graph call new types branch dests preds sealed
+  with-blocks new = graph call new types branch dests preds sealed declared
 
   abbrev pub with-types : List ℕ → Graph
-  with-types new = graph call blocks new branch dests preds sealed
+  with-types new = graph call blocks new branch dests preds sealed declared
 
   abbrev pub with-branch : (Block → Bool) → Graph
-  with-branch new = graph call blocks types new dests preds sealed
+  with-branch new = graph call blocks types new dests preds sealed declared
 
   abbrev pub with-dests : (Block → List Block) → Graph
-  with-dests new = graph call blocks types branch new preds sealed
+  with-dests new = graph call blocks types branch new preds sealed declared
 
   abbrev pub with-preds : (Block → List Block) → Graph
-  with-preds new = graph call blocks types branch dests new sealed
+  with-preds new = graph call blocks types branch dests new sealed declared
 
   abbrev pub with-sealed : (Block → Bool) → Graph
-  with-sealed new = graph call blocks types branch dests preds new
+  with-sealed new = graph call blocks types branch dests preds new declared
+
+  abbrev pub with-declared : (Block → Bool) → Graph
+  with-declared new = graph call blocks types branch dests preds sealed new
 
 abbrev pub form : ℕ → ℕ → (Value → Info) → (Value → Value) → (Block → List Value) → (Block → ℕ → List Value)
     → (Block → List (Variable × Value)) → (Variable → Block → Option Value) → (Variable → Block → Option Value)

@@ -7,3 +7,4 @@ pub mod Whole
 pub mod Calls
 pub mod Tables
 pub mod Starred
+pub mod Late

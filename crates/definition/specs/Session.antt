@@ -9,7 +9,7 @@ use Rattle.entity.specs.Limits.{limits}
 use Rattle.entity.specs.Types.{type-count}
 use Rattle.definition.specs.Base.{Block, Variable, Value, _=?_, _<?_, _≤?_, if_then_else_, put, _∷ʳ_, has, any, position, upFrom}
 use Rattle.definition.specs.Form.{Graph, Form, made, graph, form, with-call, with-blocks, with-types, with-branch}
-use Rattle.definition.specs.Form.{with-dests, with-preds, with-sealed, with-makes}
+use Rattle.definition.specs.Form.{with-dests, with-preds, with-sealed, with-declared, with-makes}
 use Rattle.definition.specs.Read.{type-of, write, make, place-block, set-pending, read, depth, settle-pending}
 
 pub record Call : Type 0 where
@@ -122,11 +122,12 @@ module _ (g : Graph) (s : Form) where
       refuse 4 when limits .made ≤? s .makes else
       ok (s .next) g (make made ty b (place-block b (with-makes s (suc (s .makes)))))
 
-  -- kind 4: an alias is stored as it is
+  -- kind 4: an alias is stored as it is; nothing is defined in a block once its branch was declared, also where it was removed again
   abbrev pub define : Variable → Value → Block → Reply
   define v x b =
       refuse 6 when (no-var v || no-value x || no-block b) else
       refuse 7 when not (s .info x .type =? type-of g v) else
+      refuse 20 when g .declared b else
       ok x g (write v b x s)
 
   -- kind 5: the value is what an earlier accepted use answered
@@ -162,7 +163,7 @@ module _ (g : Graph) (s : Form) where
       refuse 8 when g .sealed b else
       refuse 13 when not (has b (g .dests p)) else
       refuse 12 when has p (g .preds b) else
-      ok (suc (length (g .preds b))) (with-preds g (put b (g .preds b ∷ʳ p) (g .preds))) s
+      ok (suc (length (g .preds b))) (with-declared (with-preds g (put b (g .preds b ∷ʳ p) (g .preds))) (put p true (g .declared))) s
 
   -- kind 10
   abbrev pub drop-pred : Block → Block → Reply
@@ -229,7 +230,7 @@ run t (c ∷ cs) = run (step t c) cs
 -- no block, no variable, no value
 abbrev pub empty : State
 empty = record {
-  graph = graph 0 0 [] (λ b. false) (λ b. []) (λ b. []) (λ b. false);
+  graph = graph 0 0 [] (λ b. false) (λ b. []) (λ b. []) (λ b. false) (λ b. false);
   form = form 0 0 (λ x. record { sort = made; type = 0; home = 0 }) (λ x. x) (λ b. []) (λ p i. []) (λ b. []) (λ v b. none) (λ v b. none) [] [];
   done = [];
 }

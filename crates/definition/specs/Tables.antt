@@ -19,6 +19,7 @@ pub record Tables : Type 0 where
   pub preds : List (List ℕ)  -- by block
   pub pending : List (List ℕ)  -- by block
   pub sealed : List ℕ  -- by block
+  pub declared : List ℕ  -- by block: was its branch ever declared?
   pub last : List (List ℕ)  -- by block, by variable: the recorded value plus one, 0 for none
   pub zeros : List (ℕ × ℕ)  -- the zero log: call, block
   pub placed : List ℕ
@@ -59,6 +60,7 @@ module _ (g : Graph) (s : Form) where
     preds = map (g .preds) bs;
     pending = map (λ b. map (λ w. w .0) (s .pending b)) bs;
     sealed = map (λ b. bit (g .sealed b)) bs;
+    declared = map (λ b. bit (g .declared b)) bs;
     last = map last-row bs;
     zeros = s .zeros;
     placed = s .placed;

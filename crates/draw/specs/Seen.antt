@@ -17,7 +17,7 @@ abbrev pub mark-table : ℕ
 mark-table = 2
 
 abbrev pub dest-table : ℕ
-dest-table = 4
+dest-table = 5
 
 abbrev pub param-table : ℕ
 param-table = 7

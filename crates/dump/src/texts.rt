@@ -190,8 +190,15 @@ pub fn reason(out: &mut [u8], n: usize, code: usize, x: Numbers) -> usize {
 : refused (0), the branch is declared to a block
 : refused (0), the branch is declared to this block
 : refused (0), the branch does not lead there, or is not declared there
+
+
+
+
+
+
+: refused (0), the block's branch was declared before
 ",
-        known(code, 14),
+        known(code, 21),
         x,
     )
 }

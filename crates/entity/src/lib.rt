@@ -194,6 +194,7 @@ pub const GRAPH_NEED: usize = 1
     + TYPE_ROW
     + BLOCKS as usize
     + BLOCKS as usize
+    + BLOCKS as usize
     + BLOCKS as usize * DEST_ROW
     + BLOCKS as usize * PRED_ROW;
 

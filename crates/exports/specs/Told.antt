@@ -8,7 +8,7 @@ use Rattle.entity.specs.Types.{type-count}
 
 -- rises when an exported call takes, answers or leaves something else, or has another name, or when what it leaves stands for something else
 abbrev pub version : ℕ
-version = 2
+version = 3
 
 -- kinds of call are numbered from 1 to this
 abbrev pub kind-count : ℕ

@@ -17,7 +17,7 @@ use reader::Span;
 
 // Raised when an exported call takes, answers or leaves something else, or what it leaves stands for something else: a host built for another version
 // refuses to start.
-pub const VERSION: u32 = 2;
+pub const VERSION: u32 = 3;
 
 // Kinds of call are numbered from 1 to this.
 pub const KINDS: u32 = 14;

@@ -70,6 +70,9 @@ module _ {cells : List ℕ} {g : Graph} (s : Seen cells g) where
   pub sealed-cell : (b : ℕ) → b < limits .blocks → getD cells (base graph-sizes 3 + b) 0 ≡ bit (g .sealed b)
   sealed-cell b lb = s .cells .at 3 b lb
 
+  pub declared-cell : (p : ℕ) → p < limits .blocks → getD cells (base graph-sizes 4 + p) 0 ≡ bit (g .declared p)
+  declared-cell p lp = s .cells .at 4 p lp
+
   pub types-row : Row cells (base graph-sizes 1) type-row (g .types)
   types-row = row-of graph-sizes cells (graph-tables g) 1 (s .cells) (g .types) refl (omega (arith, s .bounds .vars))
 
@@ -94,7 +97,7 @@ module _ {cells : List ℕ} {g : Graph} (s : Seen cells g) where
     pub dests-row : Row cells a dest-row (g .dests p)
     dests-row =
         subst (λ (k : ℕ). Row cells k dest-row (g .dests p)) (sym e)
-        (row-among graph-sizes cells (graph-tables g) 4 (s .cells) dest-row (g .dests) p refl (omega arith) (omega (arith, s .bounds .dests p)))
+        (row-among graph-sizes cells (graph-tables g) 5 (s .cells) dest-row (g .dests) p refl (omega arith) (omega (arith, s .bounds .dests p)))
 
     pub dests-readable : Readable cells a
     dests-readable = row-readable cells a dest-row (g .dests p) dests-row (omega (arith, s .bounds .dests p))
@@ -103,7 +106,7 @@ module _ {cells : List ℕ} {g : Graph} (s : Seen cells g) where
     pub preds-row : Row cells a pred-row (g .preds b)
     preds-row =
         subst (λ (k : ℕ). Row cells k pred-row (g .preds b)) (sym e)
-        (row-among graph-sizes cells (graph-tables g) 5 (s .cells) pred-row (g .preds) b refl (omega arith) (omega (arith, preds-few b)))
+        (row-among graph-sizes cells (graph-tables g) 6 (s .cells) pred-row (g .preds) b refl (omega arith) (omega (arith, preds-few b)))
 
     pub preds-readable : Readable cells a
     preds-readable = row-readable cells a pred-row (g .preds b) preds-row (omega (arith, preds-few b))

@@ -1,4 +1,4 @@
-// The graph in lent cells: blocks, variables' types, branches with their destinations, predecessors, sealed marks.
+// The graph in lent cells: blocks, variables' types, branches with their destinations, predecessors, marks of what is sealed or was declared.
 // Every read and every change of those cells is here, so that what is above speaks of the definition's graph alone.
 ghost use mathlib.Core.Path.{_≡_};
 ghost use mathlib.Core.Bool.{true};
@@ -7,7 +7,7 @@ ghost use lib.ListN.{length, getD};
 ghost use Rattle.entity.specs.Limits.{limits, pred-room};
 ghost use Rattle.entity.specs.Options.{block-of};
 ghost use Rattle.definition.specs.Base.{put, has, position, _∷ʳ_};
-ghost use Rattle.definition.specs.Form.{Graph, with-blocks, with-types, with-branch, with-dests, with-preds};
+ghost use Rattle.definition.specs.Form.{Graph, with-blocks, with-types, with-branch, with-dests, with-preds, with-declared};
 ghost use Rattle.definition.specs.Read.{type-of, single};
 ghost use Rattle.definition.specs.Session.{swap-out, declared-anywhere, mark-sealed};
 ghost use Rattle.graph.specs.Seen.{Graph-with, Shown, Seen, dests-start, preds-start};
@@ -20,6 +20,7 @@ use entity::PRED_ROW;
 use entity::Variable;
 use layout::BLOCK_COUNT;
 use layout::BRANCHES;
+use layout::DECLARED;
 use layout::DESTS;
 use layout::PREDS;
 use layout::SEALED;
@@ -66,6 +67,16 @@ pub fn is_sealed(graph: &[u32], block: Block) -> bool
 {
     let b = block.0 as usize;
     graph[SEALED + b] != 0
+}
+
+// Was the branch ever declared to a block? Also where it was removed again; `is_declared` says whether it is so now.
+pub fn ever_declared(graph: &[u32], branch: Branch) -> bool
+    requires { ⌜ Graph-with (Seen (now graph)) ⌝ }
+    requires { ⌜ branch .0 < limits .blocks ⌝ }
+    ensures { λ r. ⌜ ((g : Graph) → Seen (now (graph .entry)) g → r ≡ g .declared (branch .0)) ⌝ }
+{
+    let p = branch.0 as usize;
+    graph[DECLARED + p] != 0
 }
 
 // The cell of the count of a branch's destinations; they follow it.
@@ -222,15 +233,19 @@ pub fn declare_dest(graph: &mut [u32], branch: Branch, block: Block)
     rows::push(graph, at, block.0);
 }
 
+// The branch comes last among the block's predecessors, and is marked for good as declared.
 pub fn declare_block_predecessor(graph: &mut [u32], block: Block, branch: Branch)
     requires { ⌜ Graph-with (Can-declare-predecessor (now graph) (block .0) (branch .0)) ⌝ }
     requires { ⌜ block .0 < limits .blocks ⌝ }
     requires { ⌜ branch .0 < limits .blocks ⌝ }
     ensures { λ r. ⌜ ((g : Graph) → Can-declare-predecessor (now (graph .entry)) (block .0) (branch .0) g
-        → Shown (now (graph .exit)) (with-preds g (put (block .0) (g .preds (block .0) ∷ʳ branch .0) (g .preds)))) ⌝ }
+        → Shown (now (graph .exit)) (with-declared (with-preds g (put (block .0) (g .preds (block .0) ∷ʳ branch .0) (g .preds)))
+        (put (branch .0) true (g .declared)))) ⌝ }
 {
     let at = preds_of(block);
     rows::push(graph, at, branch.0);
+    let marked = branch.0 as usize;
+    graph[DECLARED + marked] = 1;
 }
 
 // The last predecessor moves into the place of the one that leaves, which is answered.

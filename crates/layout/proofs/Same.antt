@@ -116,8 +116,9 @@ module _ (g g′ : Graph) (s s′ : Form) (R : Rooms g s) (R′ : Rooms g′ s�
         types = cell-same (row-cells (limits .variables)) (g .types) (g′ .types) (omega (arith, R .variables)) (omega (arith, R′ .variables)) (at 1);
         branch = λ b lt. bit-same (g .branch b) (g′ .branch b) (at 2 b lt);
         sealed = λ b lt. bit-same (g .sealed b) (g′ .sealed b) (at 3 b lt);
-        dests = λ b lt. rows-same (limits .blocks) dest-row (g .dests) (g′ .dests) b lt (omega (arith, R .dests b)) (omega (arith, R′ .dests b)) (at 4);
-        preds = λ b lt. rows-same (limits .blocks) pred-row (g .preds) (g′ .preds) b lt (omega (arith, R .preds b)) (omega (arith, R′ .preds b)) (at 5);
+        declared = λ b lt. bit-same (g .declared b) (g′ .declared b) (at 4 b lt);
+        dests = λ b lt. rows-same (limits .blocks) dest-row (g .dests) (g′ .dests) b lt (omega (arith, R .dests b)) (omega (arith, R′ .dests b)) (at 5);
+        preds = λ b lt. rows-same (limits .blocks) pred-row (g .preds) (g′ .preds) b lt (omega (arith, R .preds b)) (omega (arith, R′ .preds b)) (at 6);
       }
 
   pub same-form : Stored g s → Stored g′ s′ → render-form s ≡ render-form s′ → Same-form s s′

@@ -36,7 +36,7 @@ abbrev pub param-row : ℕ
 param-row = row-cells (param-room limits)
 
 abbrev pub graph-sizes : List ℕ
-graph-sizes = 1 ∷ type-row ∷ limits .blocks ∷ limits .blocks ∷ limits .blocks * dest-row ∷ limits .blocks * pred-row ∷ []
+graph-sizes = 1 ∷ type-row ∷ limits .blocks ∷ limits .blocks ∷ limits .blocks ∷ limits .blocks * dest-row ∷ limits .blocks * pred-row ∷ []
 
 abbrev pub graph-tables : Graph → List Table
 graph-tables g =
@@ -44,8 +44,9 @@ graph-tables g =
     ∷ cell (g .types)  -- 1
     ∷ (λ b. bit (g .branch b))  -- 2
     ∷ (λ b. bit (g .sealed b))  -- 3
-    ∷ rows dest-row (g .dests)  -- 4
-    ∷ rows pred-row (g .preds)  -- 5
+    ∷ (λ b. bit (g .declared b))  -- 4
+    ∷ rows dest-row (g .dests)  -- 5
+    ∷ rows pred-row (g .preds)  -- 6
     ∷ []
 
 -- what a value is, in one cell; no value is marked yet

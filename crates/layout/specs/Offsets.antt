@@ -16,8 +16,8 @@ starts sizes = map (base sizes) (upFrom 0 (suc (length sizes)))
 widths : type-row ∷ dest-row ∷ pred-row ∷ zero-row ∷ param-row ∷ [] ≡ 65 ∷ 9 ∷ 65 ∷ 4097 ∷ 65 ∷ []
 widths = refl
 
--- blocks, types, branch marks, sealed marks, destinations, predecessors
-graph-starts : starts graph-sizes ≡ 0 ∷ 1 ∷ 66 ∷ 130 ∷ 194 ∷ 770 ∷ 4930 ∷ []
+-- blocks, types, branch marks, sealed marks, declared marks, destinations, predecessors
+graph-starts : starts graph-sizes ≡ 0 ∷ 1 ∷ 66 ∷ 130 ∷ 194 ∷ 258 ∷ 834 ∷ 4994 ∷ []
 graph-starts = refl
 
 -- values, made values, target, description, placed, zero calls, zero blocks, parameters, pending variables,

@@ -11,6 +11,7 @@ pub record Same-graph (g g′ : Graph) : Type 0 where
   pub types : g .types ≡ g′ .types
   pub branch : (b : ℕ) → b < limits .blocks → g .branch b ≡ g′ .branch b
   pub sealed : (b : ℕ) → b < limits .blocks → g .sealed b ≡ g′ .sealed b
+  pub declared : (b : ℕ) → b < limits .blocks → g .declared b ≡ g′ .declared b
   pub dests : (b : ℕ) → b < limits .blocks → g .dests b ≡ g′ .dests b
   pub preds : (b : ℕ) → b < limits .blocks → g .preds b ≡ g′ .preds b
 

@@ -18,7 +18,9 @@ pub const BRANCHES: usize = TYPES + entity::TYPE_ROW;
 
 pub const SEALED: usize = BRANCHES + entity::BLOCKS as usize;
 
-pub const DESTS: usize = SEALED + entity::BLOCKS as usize;
+pub const DECLARED: usize = SEALED + entity::BLOCKS as usize;
+
+pub const DESTS: usize = DECLARED + entity::BLOCKS as usize;
 
 pub const PREDS: usize = DESTS + entity::BLOCKS as usize * entity::DEST_ROW;
 
@@ -53,7 +55,7 @@ pub const CALL_BLOCKS: usize = CALL_VALUES + entity::CALL_ROOM;
 pub const RESULTS: usize = CALL_BLOCKS + entity::CALL_ROOM;
 
 // The starts for a host, and last the need. Their contracts hold each constant above to the sizes that the specs work out.
-pub fn graph_starts() -> [usize; 7]
+pub fn graph_starts() -> [usize; 8]
     ensures { λ r. ⌜ r ≡ starts graph-sizes ⌝ }
 {
     [
@@ -61,6 +63,7 @@ pub fn graph_starts() -> [usize; 7]
         TYPES,
         BRANCHES,
         SEALED,
+        DECLARED,
         DESTS,
         PREDS,
         entity::GRAPH_NEED,

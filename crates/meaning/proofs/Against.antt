@@ -2,9 +2,9 @@
 -- shown by computing. Assumes nothing.
 use Prim.Native.Nat.{ℕ}
 use mathlib.Core.Path.{_≡_, refl}
-use mathlib.Core.List.{List, [], _∷_, _++_}
+use mathlib.Core.List.{List, [], _∷_, _++_, map}
 use Rattle.definition.specs.Session.{Call, session}
-use Rattle.definition.specs.Calls.{declare-var, make-value, define, use-var, new-branch, new-dest, seal-all, blocks, sets, jumps}
+use Rattle.definition.specs.Calls.{declare-var, make-value, define, use-var, new-branch, new-dest, drop-pred, seal-all, blocks, sets, jumps}
 use Rattle.meaning.specs.Trace.{finds}
 
 -- A zero holds 0, an unset value 1, a made value 2.
@@ -42,19 +42,19 @@ undeclared = blocks 2 ++ declare-var 0 2 ∷ [] ++ sets 0 2 0 0 ++ new-branch 0 
 pub zero-for-a-value : found-on undeclared (0 ∷ []) ≡ (0, 2) ∷ []
 zero-for-a-value = refl
 
--- 4. Block 0 gives the variable its value after block 1 has asked for it.
-abbrev pub late : List Call
-late = blocks 2 ++ declare-var 0 2 ∷ make-value 0 2 ∷ [] ++ jumps 0 (1 ∷ []) ++ seal-all ∷ use-var 0 1 ∷ define 0 0 0 ∷ []
-
-pub asked-too-early : found-on late (0 ∷ []) ≡ (0, 2) ∷ []
-asked-too-early = refl
-
--- 5. Block 0 gives the variable a value of block 1, which makes it anew.
+-- 4. Block 0 gives the variable a value of block 1, which makes it anew.
 abbrev pub foreign : List Call
 foreign = blocks 2 ++ declare-var 0 2 ∷ make-value 1 2 ∷ define 0 0 0 ∷ [] ++ jumps 0 (1 ∷ []) ++ seal-all ∷ use-var 0 1 ∷ []
 
 pub made-anew : found-on foreign (0 ∷ []) ≡ (2, 1) ∷ []
 made-anew = refl
+
+-- What need not be supposed: a definition in block 0 after its branch was declared gets 20, also once the branch was removed.
+abbrev pub late : List Call
+late = blocks 2 ++ declare-var 0 2 ∷ make-value 0 2 ∷ [] ++ jumps 0 (1 ∷ []) ++ define 0 0 0 ∷ drop-pred 1 0 ∷ define 0 0 0 ∷ []
+
+pub late-refused : map (λ d. d .code) (session late .done) ≡ 0 ∷ 0 ∷ 0 ∷ 0 ∷ 0 ∷ 0 ∷ 0 ∷ 20 ∷ 0 ∷ 20 ∷ []
+late-refused = refl
 
 -- One argument for each parameter, 1: a parameter of an unsealed block has no arguments yet.
 abbrev pub waiting : List Call

@@ -5,23 +5,23 @@ use mathlib.Core.Path.{_≡_, refl, sym, ap, _∙_}
 use mathlib.Core.Logic.{_≢_, inl, inr}
 use mathlib.Core.Bool.{true}
 use mathlib.Core.Option.{Option, none}
-use mathlib.Core.List.{List, [], _∷_, _++_, append-assoc, append-nil}
+use mathlib.Core.List.{List, [], _∷_, _++_, append-nil}
 use lib.ListN.{length, getD}
 use native.Mathlib.Omega.{arith}
 use native.Mathlib.Nat.{not-suc-le-zero}
 use Rattle.definition.specs.Base.{orElse}
 use Rattle.definition.specs.Form.{Graph, Form, Sort, made, param}
 use Rattle.definition.specs.Session.{Call, Done, State, Reply, no, ok, reply, tick, after, step, empty, run, session}
-use Rattle.meaning.specs.Path.{On-time, In, acts, Supposed, Fed, Demand-3}
-use Rattle.meaning.proofs.Maps.{eqb-diff, false-true, some-none}
+use Rattle.meaning.specs.Path.{In, acts, Supposed, Fed, Demand-3}
+use Rattle.meaning.proofs.Maps.{eqb-diff, some-none}
 use Rattle.meaning.proofs.Facts.{Edge, same, kept, Facts}
 use Rattle.meaning.proofs.Alias.{tree-start, follow-root}
-use Rattle.meaning.proofs.Lists.{in-right, getD-in, nil-of}
+use Rattle.meaning.proofs.Lists.{getD-in, nil-of}
 use Rattle.meaning.proofs.Inv.{grow-refl}
 use Rattle.meaning.proofs.Sealing.{idle}
 use Rattle.meaning.proofs.Story.{cur-or, told-all}
 use Rattle.meaning.proofs.Graphs.{wider-inv}
-use Rattle.meaning.proofs.Whole.{Whole, silent, Fine, Timely, fine}
+use Rattle.meaning.proofs.Whole.{Whole, silent, Fine, fine}
 use Rattle.meaning.proofs.Along.{faithful}
 
 abbrev pub Good : Type 0 → State → Type 0
@@ -40,43 +40,16 @@ whole-tick E g s ds h = record {
 -- a refused call
 pub refused : (E : Type 0) (g : Graph) (s : Form) (ds : List Done) (c : Call) (k : ℕ) → k ≢ 0 → Whole E g s ds
     → Whole E g s (ds ++ record { asked = c; code = k; number = 0 } ∷ [])
-refused E g s ds c k n h = silent E g s ds h (record { asked = c; code = k; number = 0 }) (λ b. rw (eqb-diff k 0 n) refl) g s (h .kp) (h .inv) (h .sound) (λ b p i. inl i) (grow-refl s)
+refused E g s ds c k n h = silent E g s ds h (record { asked = c; code = k; number = 0 }) (λ b. rw (eqb-diff k 0 n) refl) g s (h .kp) (h .inv) (h .sound) (h .hist) (grow-refl s)
 
 pub after-good : (E : Type 0) (t : State) (c : Call) (h : Good E t) (r : Reply) → Fine E (t .graph) (t .form) (t .done) h c r → Good E (after t c r)
 after-good E t c h (no k) f = whole-tick E (t .graph) (t .form) (t .done ++ record { asked = c; code = k; number = 0 } ∷ []) (refused E (t .graph) (t .form) (t .done) c k f h)
 after-good E t c h (ok n g s) f = whole-tick E g s (t .done ++ record { asked = c; code = 0; number = n } ∷ []) f
 
--- the answers only grow
-more : (t : State) (c : Call) (r : Reply) → (d : Done) × (after t c r .done ≡ t .done ++ d ∷ [])
-more t c (no k) = (record { asked = c; code = k; number = 0 }, refl)
-more t c (ok n g s) = (record { asked = c; code = 0; number = n }, refl)
-
-run-more : (cs : List Call) (t : State) → (l : List Done) × (run t cs .done ≡ t .done ++ l)
-run-more [] t = ([], sym (append-nil (t .done)))
-run-more (c ∷ cs) t =
-    let k = run-more cs (step t c) in
-    let m = more t c (reply (t .graph) (t .form) (t .done) (c .x) (c .y) (c .z) (c .kind)) in
-    (m .0 ∷ k .0, k .1 ∙ ap (λ (l : List Done). l ++ k .0) (m .1) ∙ append-assoc (t .done) (m .0 ∷ []) (k .0))
-
-split-in : (d : Done) (l : List Done) → In d l → (a b : List Done) × (l ≡ a ++ d ∷ b)
-split-in d (x ∷ l) (inl e) = ([], l, ap {B = List Done} (λ y. y ∷ l) (sym e))
-split-in d (x ∷ l) (inr i) = let k = split-in d l i in (x ∷ k .0, k .1, ap {B = List Done} (λ r. x ∷ r) (k .2))
-
-timely : (E : Type 0) (cs : List Call) (t : State) (c : Call) (h : Good E t) → On-time (run t (c ∷ cs) .done)
-    → Timely E (t .graph) (t .form) (t .done) h c (reply (t .graph) (t .form) (t .done) (c .x) (c .y) (c .z) (c .kind))
-timely E cs t c h late n g s e z def-z d i dec =
-    let k = split-in d (t .done) i in
-    let new : Done = record { asked = c; code = 0; number = n } in
-    let rest = run-more cs (step t c) in
-    let all : run t (c ∷ cs) .done ≡ k .0 ++ d ∷ (k .1 ++ new ∷ rest .0) =
-    rest .1 ∙ ap (λ (r : Reply). after t c r .done ++ rest .0) e ∙ append-assoc (t .done) (new ∷ []) (rest .0)
-    ∙ ap (λ (l : List Done). l ++ new ∷ rest .0) (k .2) ∙ append-assoc (k .0) (d ∷ k .1) (new ∷ rest .0) in
-    false-true (late z (k .0) (k .1 ++ new ∷ rest .0) d new all dec (in-right new (k .1) (new ∷ rest .0) (inl refl))) def-z
-
-pub run-good : (E : Type 0) (cs : List Call) (t : State) → Good E t → (E → On-time (run t cs .done)) → Good E (run t cs)
-run-good E [] t h late = h
-run-good E (c ∷ cs) t h late =
-    run-good E cs (step t c) (after-good E t c h (reply (t .graph) (t .form) (t .done) (c .x) (c .y) (c .z) (c .kind)) (fine E (t .graph) (t .form) (t .done) h c (c .kind) refl (λ ok. timely E cs t c h (late ok)))) late
+pub run-good : (E : Type 0) (cs : List Call) (t : State) → Good E t → Good E (run t cs)
+run-good E [] t h = h
+run-good E (c ∷ cs) t h =
+    run-good E cs (step t c) (after-good E t c h (reply (t .graph) (t .form) (t .done) (c .x) (c .y) (c .z) (c .kind)) (fine E (t .graph) (t .form) (t .done) h c (c .kind) refl))
 
 pub empty-good : (E : Type 0) → Good E empty
 empty-good E = record {
@@ -134,5 +107,5 @@ module _ (t : State) (h : Good (Unit {0}) t) (S : Supposed t) where
 
 pub demand-3 : Demand-3
 demand-3 cs S =
-    let h = run-good (Unit {0}) cs empty (empty-good (Unit {0})) (λ _. S .none-late) in
+    let h = run-good (Unit {0}) cs empty (empty-good (Unit {0})) in
     (λ W null. faithful (session cs) (facts (session cs) h S) S W null, fed (session cs) h S)

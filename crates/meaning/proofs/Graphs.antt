@@ -8,7 +8,7 @@ use mathlib.Core.Option.{some}
 use mathlib.Core.List.{List, [], _∷_, _++_}
 use lib.ListN.{length, getD}
 use native.Mathlib.Nat.{le-trans}
-use Rattle.definition.specs.Form.{graph, with-dests, with-preds, Graph, Form, def}
+use Rattle.definition.specs.Form.{graph, with-dests, with-preds, with-declared, Graph, Form, def}
 use Rattle.definition.specs.Base.{put}
 use Rattle.definition.specs.Read.{write}
 use Rattle.meaning.specs.Path.{In}
@@ -20,7 +20,7 @@ module _ (g : Graph) (E : Type 0) (s : Form) (kp : ℕ → List ℕ) (op : Work)
   -- 1. more blocks and variables, another branch mark or call
   module _ (c n : ℕ) (ty : List ℕ) (br : ℕ → Bool) (more : g .blocks ≤ n)
       (typed : (w : ℕ) → w < length (g .types) → (w < length ty) × (getD ty w 0 ≡ getD (g .types) w 0)) where
-    pub wider-inv : Inv (graph c n ty br (g .dests) (g .preds) (g .sealed)) E s kp op
+    pub wider-inv : Inv (graph c n ty br (g .dests) (g .preds) (g .sealed) (g .declared)) E s kp op
     wider-inv = record {
       known = λ w b e q. let k = h .known w b e q in (typed w (k .0) .0, le-trans (k .1) more);
       edge = h .edge;
@@ -67,15 +67,15 @@ module _ (g : Graph) (E : Type 0) (s : Form) (kp : ℕ → List ℕ) (op : Work)
       aliased = h .aliased;
     }
 
-  -- 3. other predecessors of a block that is not sealed
-  module _ (b : ℕ) (ps : List ℕ) (unsealed : g .sealed b ≡ false) where
+  -- 3. other predecessors of a block that is not sealed, and other marks of what was ever declared
+  module _ (b : ℕ) (ps : List ℕ) (dc : ℕ → Bool) (unsealed : g .sealed b ≡ false) where
     apart : (c : ℕ) → g .sealed c ≡ true → c ≢ b
     apart c z e = false-true unsealed (rw e at z)
 
     still : (c : ℕ) → g .sealed c ≡ true → put b ps (g .preds) c ≡ g .preds c
     still c z = put-other b ps (g .preds) c (apart c z)
 
-    rejoin : (w c e : ℕ) → Edge g s kp w c e → Edge (with-preds g (put b ps (g .preds))) s kp w c e
+    rejoin : (w c e : ℕ) → Edge g s kp w c e → Edge (with-declared (with-preds g (put b ps (g .preds))) dc) s kp w c e
     rejoin w c e (same z f) = same z (λ p ip. f p (rw (still c z) at ip))
     rejoin w c e (kept z r x f) = kept z r x (λ p ip. f p (rw (still c z) at ip))
 
@@ -83,7 +83,7 @@ module _ (g : Graph) (E : Type 0) (s : Form) (kp : ℕ → List ℕ) (op : Work)
     edge-sealed w c e (same z f) = z
     edge-sealed w c e (kept z r x f) = z
 
-    pub joined-inv : Inv (with-preds g (put b ps (g .preds))) E s kp op
+    pub joined-inv : Inv (with-declared (with-preds g (put b ps (g .preds))) dc) E s kp op
     joined-inv = record {
       known = h .known;
       edge = λ ok w c e q. ⊎-map (λ i. i) (rejoin w c e) (h .edge ok w c e q);
@@ -101,18 +101,18 @@ module _ (g : Graph) (E : Type 0) (s : Form) (kp : ℕ → List ℕ) (op : Work)
     }
 
   -- 4. writing in a block that is declared nowhere
-  module _ (v b x : ℕ) (nowhere : E → (c : ℕ) → In b (g .preds c) → ⊥) where
-    same-def : E → (w p c o : ℕ) → In p (g .preds c) → def s w p ≡ some o → def (write v b x s) w p ≡ some o
-    same-def ok w p c o i e = rw (put₂-other v b (some x) (s .own) w p (λ _ q. nowhere ok c (rw q at i))) e
+  module _ (v b x : ℕ) (nowhere : (c : ℕ) → In b (g .preds c) → ⊥) where
+    same-def : (w p c o : ℕ) → In p (g .preds c) → def s w p ≡ some o → def (write v b x s) w p ≡ some o
+    same-def w p c o i e = rw (put₂-other v b (some x) (s .own) w p (λ _ q. nowhere c (rw q at i))) e
 
-    rewrite : E → (w c e : ℕ) → Edge g s kp w c e → Edge g (write v b x s) kp w c e
-    rewrite ok w c e (same z f) = same z (λ p ip. let o = f p ip in (o .0, same-def ok w p c (o .0) ip (o .1), o .2))
-    rewrite ok w c e (kept z r y f) = kept z r y (λ p ip. let o = f p ip in (o .0, same-def ok w p c (o .0) ip (o .1), o .2))
+    rewrite : (w c e : ℕ) → Edge g s kp w c e → Edge g (write v b x s) kp w c e
+    rewrite w c e (same z f) = same z (λ p ip. let o = f p ip in (o .0, same-def w p c (o .0) ip (o .1), o .2))
+    rewrite w c e (kept z r y f) = kept z r y (λ p ip. let o = f p ip in (o .0, same-def w p c (o .0) ip (o .1), o .2))
 
     pub write-inv : Inv g E (write v b x s) kp op
     write-inv = record {
       known = h .known;
-      edge = λ ok w c e q. ⊎-map (λ i. i) (rewrite ok w c e) (h .edge ok w c e q);
+      edge = λ ok w c e q. ⊎-map (λ i. i) (rewrite w c e) (h .edge ok w c e q);
       first = h .first;
       pend = h .pend;
       listed = h .listed;

@@ -27,6 +27,8 @@ pub mod Decide
 pub mod Suppositions
 pub mod Trace
 pub mod Needed
+-- what need not be supposed: no definition comes late
+pub mod Timely
 -- the machine, and what holds at its every moment and after every list of calls
 pub mod Machine
 pub mod Heights

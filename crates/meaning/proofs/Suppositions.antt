@@ -3,65 +3,26 @@
 use Prim.Native.Nat.{ℕ, _<_}
 use mathlib.Core.Path.{_≡_, refl, sym, ap, _∙_, subst}
 use mathlib.Core.Logic.{_≢_, _⊎_, inl, inr}
-use mathlib.Core.Bool.{true, false, _&&_}
+use mathlib.Core.Bool.{true}
 use mathlib.Core.Option.{Option, none, some}
 use mathlib.Core.List.{List, [], _∷_, _++_}
-use lib.Dec.{eqb}
 use native.Mathlib.Omega.{arith}
 use Rattle.definition.specs.Base.{put}
-use Rattle.definition.specs.Session.{Call, Done, State, session}
-use Rattle.meaning.specs.Path.{Had, On-time, All-sealed, None-enters-0, All-declared, None-late, Own-values, In, Act, makes, gives, uses, acts, declares, defines, Supposed, Right}
-use Rattle.meaning.specs.Suppositions.{defines-none, on-time?, owned?, all-sealed?, none-enters-0?, all-declared?, none-late?, own-values?, supposed?}
+use Rattle.definition.specs.Session.{Call, State, session}
+use Rattle.meaning.specs.Path.{Had, All-sealed, None-enters-0, All-declared, Own-values, In, Act, makes, gives, uses, acts, Supposed, Right}
+use Rattle.meaning.specs.Suppositions.{owned?, all-sealed?, none-enters-0?, all-declared?, own-values?, supposed?}
 use Rattle.meaning.proofs.Agree.{fork}
-use Rattle.meaning.proofs.Maps.{same?, eqb-eq, put-same, put-at, put-other}
+use Rattle.meaning.proofs.Maps.{same?, put-same, put-at, put-other}
 use Rattle.meaning.proofs.Facts.{cur}
 use Rattle.meaning.proofs.Story.{cur-append}
 use Rattle.meaning.proofs.Demand.{demand-3}
 use Rattle.meaning.proofs.Sure.{sure}
 use Rattle.meaning.proofs.Stored.{stored}
-use Rattle.meaning.proofs.Decide.{Decides, turned, itself, listed, denied, refuted, both, implied, each, each-below}
+use Rattle.meaning.proofs.Decide.{Decides, turned, itself, listed, denied, both, each, each-below}
 
 nil-cons : {A : Type 0} (us bs : List A) (a : A) → [] ≡ us ++ a ∷ bs → ⊥
 nil-cons [] bs a e = let z : _≡_ {A = ℕ} 0 1 = cc in omega arith
 nil-cons (u ∷ us) bs a e = let z : _≡_ {A = ℕ} 0 1 = cc in omega arith
-
--- no definition comes late
-none-defined : (p : ℕ) (es : List Done) → Decides (defines-none p es) ((e : Done) → In e es → defines p e ≡ false)
-none-defined p [] = record { sound = λ e x i. absurd i; complete = λ h. refl }
-none-defined p (d ∷ es) =
-    turned to (λ h. (h d (inl refl), λ e i. h e (inr i))) (both (refuted (defines p d)) (none-defined p es))
-  where
-    to : (defines p d ≡ false) × ((e : Done) → In e es → defines p e ≡ false) → (e : Done) → In e (d ∷ es) → defines p e ≡ false
-    to h e (inl q) = ap (defines p) q ∙ h .0
-    to h e (inr i) = h .1 e i
-
--- a declaration names its branch
-declared-branch : (p : ℕ) (d : Done) → declares p d ≡ true → d .asked .y ≡ p
-declared-branch p d e = eqb-eq (d .asked .y) p (both (itself (eqb (d .asked .kind) 9 && eqb (d .code) 0)) (itself (eqb (d .asked .y) p)) .sound e .1)
-
--- nothing is defined in the branch of c, where c declares one
-abbrev Closed : Done → List Done → Type 0
-Closed c l = declares (c .asked .y) c ≡ true → (e : Done) → In e l → defines (c .asked .y) e ≡ false
-
-closed : (c : Done) (l : List Done) → Closed c l → (p : ℕ) → declares p c ≡ true → (e : Done) → In e l → defines p e ≡ false
-closed c l h p dec e i =
-    let k = declared-branch p c dec in
-    subst (λ (j : ℕ). defines j e ≡ false) k (h (subst (λ (j : ℕ). declares j c ≡ true) (sym k) dec) e i)
-
-on-time : (l : List Done) → Decides (on-time? l) (On-time l)
-on-time [] = record { sound = λ _ p ds es d e q. absurd (nil-cons ds es d q); complete = λ h. refl }
-on-time (c ∷ l) =
-    turned to from (both (implied (declares (c .asked .y) c) (none-defined (c .asked .y) l)) (on-time l))
-  where
-    to : Closed c l × On-time l → On-time (c ∷ l)
-    to h p [] es d e q dec i =
-        let same : d ≡ c = cc in
-        let rest : es ≡ l = cc in
-        closed c l (h .0) p (subst (λ (k : Done). declares p k ≡ true) same dec) e (subst (λ (k : List Done). In e k) rest i)
-    to h p (u ∷ ds) es d e q dec i = h .1 p ds es d e (cc) dec i
-
-    from : On-time (c ∷ l) → Closed c l × On-time l
-    from h = (λ dec e i. h (c .asked .y) [] l c e refl dec i, λ p ds es d e q dec i. h p (c ∷ ds) es d e (ap {B = List Done} (λ k. c ∷ k) q) dec i)
 
 -- each definition takes an own value: the values made or answered among some acts
 abbrev values : List Act → List ℕ
@@ -188,9 +149,6 @@ module _ (cs : List Call) where
       turned (λ h p b i. h p (stored cs .dests p b i .0) b i) (λ h p l. h p)
       (each-below (λ p. each (λ b. listed p (t .graph .preds b)) (t .graph .dests p)) (t .graph .blocks))
 
-  pub none-late-decided : Decides (none-late? t) (None-late t)
-  none-late-decided = on-time (t .done)
-
   pub own-values-decided : Decides (own-values? t) (Own-values t)
   own-values-decided =
       turned (λ h b v x us bs q. h b (defined-below b v x us bs q) v x us bs q) (λ h b l. h b)
@@ -198,11 +156,11 @@ module _ (cs : List Call) where
 
   pub supposed-decided : Decides (supposed? t) (Supposed t)
   supposed-decided =
-      turned to (λ S. ((((S .all-sealed, S .none-enters-0), S .all-declared), S .none-late), S .own-values))
-      (both (both (both (both all-sealed-decided none-enters-0-decided) all-declared-decided) none-late-decided) own-values-decided)
+      turned to (λ S. (((S .all-sealed, S .none-enters-0), S .all-declared), S .own-values))
+      (both (both (both all-sealed-decided none-enters-0-decided) all-declared-decided) own-values-decided)
     where
-      to : (((All-sealed t × None-enters-0 t) × All-declared t) × None-late t) × Own-values t → Supposed t
-      to h = record { all-sealed = h .0 .0 .0 .0; none-enters-0 = h .0 .0 .0 .1; all-declared = h .0 .0 .1; none-late = h .0 .1; own-values = h .1 }
+      to : ((All-sealed t × None-enters-0 t) × All-declared t) × Own-values t → Supposed t
+      to h = record { all-sealed = h .0 .0 .0; none-enters-0 = h .0 .0 .1; all-declared = h .0 .1; own-values = h .1 }
 
   pub supposed-sound : supposed? t ≡ true → Supposed t
   supposed-sound = supposed-decided .sound

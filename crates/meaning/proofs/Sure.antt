@@ -12,7 +12,7 @@ use native.Mathlib.Nat.{le-trans, not-suc-le-zero}
 use Rattle.entity.specs.Types.{type-count}
 use Rattle.entity.specs.Limits.{limits}
 use Rattle.definition.specs.Base.{put, has, upFrom}
-use Rattle.definition.specs.Form.{Graph, Form, made, with-makes, with-blocks, with-preds, with-dests}
+use Rattle.definition.specs.Form.{Graph, Form, made, with-makes, with-blocks, with-preds, with-declared, with-dests}
 use Rattle.definition.specs.Read.{type-of, write, make, place-block}
 use Rattle.definition.specs.Session.{Call, Done, State, Reply, no, ok, refuse_when_else_, declared-anywhere, no-block, no-var, no-value, no-branch}
 use Rattle.definition.specs.Session.{declare-block, declare-var, make-value, define, use-var, new-branch, new-dest, add-pred, drop-pred, seal, seal-form}
@@ -143,6 +143,7 @@ module _ (g : Graph) (s : Form) (ds : List Done) (w : Whole ⊥ g s ds) (h : Saf
 
     keep-define : (v x b : ℕ) → Keep (define g s v x b)
     keep-define v x b = check 6 (no-var g s v || no-value g s x || no-block g s b) _ λ e₆. check 7 (not (eqb (s .info x .type) (type-of g v))) _ λ _.
+        check 20 (g .declared b) _ λ _.
         let p = or-no (no-var g s v || no-value g s x) (no-block g s b) e₆ in
         let o = or-no (no-var g s v) (no-value g s x) (p .0) in
         keep x g (write v b x s) refl (h .bounds) (write-ranged g s (h .ranged) v b x (leb-no (length (g .types)) v (o .0)) (leb-no (g .blocks) b (p .1)) (leb-no (s .next) x (o .1)))
@@ -194,14 +195,15 @@ module _ (g : Graph) (s : Form) (ds : List Done) (w : Whole ⊥ g s ds) (h : Saf
         (wider-ranged g s (h .ranged) _ (omega arith) (omega arith) (omega arith) (λ d. refl)) (h .load) (omega arith)
 
     -- other predecessors
-    keep-joined : (n b : ℕ) (ps : List ℕ) → Keep (ok n (with-preds g (put b ps (g .preds))) s)
-    keep-joined n b ps = keep n _ s refl (h .bounds) (wider-ranged g s (h .ranged) _ (omega arith) (omega arith) (omega arith) (λ d. refl)) (h .load) (omega arith)
+    keep-joined : (n b : ℕ) (ps : List ℕ) (dc : ℕ → Bool) → Keep (ok n (with-declared (with-preds g (put b ps (g .preds))) dc) s)
+    keep-joined n b ps dc = keep n _ s refl (h .bounds) (wider-ranged g s (h .ranged) _ (omega arith) (omega arith) (omega arith) (λ d. refl)) (h .load) (omega arith)
 
     keep-pred : (b p : ℕ) → Keep (add-pred g s b p)
-    keep-pred b p = check 6 (no-block g s b || no-branch g s p) _ λ _. check 8 (g .sealed b) _ λ _. check 13 (not (has b (g .dests p))) _ λ _. check 12 (has p (g .preds b)) _ λ _. keep-joined _ b _
+    keep-pred b p = check 6 (no-block g s b || no-branch g s p) _ λ _. check 8 (g .sealed b) _ λ _. check 13 (not (has b (g .dests p))) _ λ _. check 12 (has p (g .preds b)) _ λ _.
+        keep-joined _ b _ _
 
     keep-drop : (b p : ℕ) → Keep (drop-pred g s b p)
-    keep-drop b p = check 6 (no-block g s b || no-branch g s p) _ λ _. check 8 (g .sealed b) _ λ _. check 13 (not (has p (g .preds b))) _ λ _. keep-joined _ b _
+    keep-drop b p = check 6 (no-block g s b || no-branch g s p) _ λ _. check 8 (g .sealed b) _ λ _. check 13 (not (has p (g .preds b))) _ λ _. keep-joined _ b _ (g .declared)
 
     keep-ask : (b n : ℕ) → Keep (refuse_when_else_ 6 (no-block g s b) (ok n g s))
     keep-ask b n = check 6 (no-block g s b) _ λ _. nothing n
@@ -281,7 +283,7 @@ module _ (t : State) (c : Call) (h : Sure t) where
   pub step-sure : Sure (step t c)
   step-sure =
       let r = reply (t .graph) (t .form) (t .done) (c .x) (c .y) (c .z) (c .kind) in
-      let f = fine ⊥ (t .graph) (t .form) (t .done) (h .whole) c (c .kind) refl (λ z. absurd z) in
+      let f = fine ⊥ (t .graph) (t .form) (t .done) (h .whole) c (c .kind) refl in
       after-sure r (after-good ⊥ t c (h .whole) r f) f (kept (t .graph) (t .form) (t .done) (h .whole) (h .safe) c (c .kind) refl)
 
 pub run-sure : (cs : List Call) (t : State) → Sure t → Sure (run t cs)

@@ -10,7 +10,7 @@ use Rattle.definition.specs.Session.{Call, session, seal-each, answered}
 use Rattle.definition.specs.Resolve.{Resolved, targets}
 use Rattle.definition.specs.Read.{resolve}
 use Rattle.definition.specs.Base.{_∷ʳ_}
-use Rattle.meaning.specs.Path.{Supposed, In, Right}
+use Rattle.meaning.specs.Path.{Supposed, None-late, In, Right}
 use Rattle.meaning.specs.Bits.{Faithful-bits, Unset-shows, Zeros-typed}
 use Rattle.meaning.specs.Turns.{Scheduled}
 use Rattle.meaning.specs.Answers.{Answered}
@@ -31,6 +31,7 @@ use Rattle.meaning.proofs.Holds.{holds}
 use Rattle.meaning.proofs.Sure.{sure}
 use Rattle.meaning.proofs.Suppositions.{supposed-sound, supposed-complete}
 use Rattle.meaning.proofs.Needed.{needed}
+use Rattle.meaning.proofs.Timely.{timely}
 
 -- ---- demand 3
 
@@ -57,9 +58,13 @@ pub suppositions-decided : (cs : List Call)
     → (supposed? (session cs) ≡ true → Supposed (session cs)) × (Supposed (session cs) → supposed? (session cs) ≡ true)
 suppositions-decided cs = (supposed-sound cs, supposed-complete cs)
 
--- None of the five suppositions can be left out: without the one at k the claim is false.
-pub suppositions-needed : (k : ℕ) → 1 ≤ k → k ≤ 5 → Demand-3-but k → ⊥
+-- None of the four suppositions can be left out: without the one at k the claim is false.
+pub suppositions-needed : (k : ℕ) → 1 ≤ k → k ≤ 4 → Demand-3-but k → ⊥
 suppositions-needed = needed
+
+-- What had to be supposed too, of every list: nothing is defined in a block once its branch was declared, also where it was removed again.
+pub none-late : (cs : List Call) → None-late (session cs)
+none-late cs = timely cs
 
 -- ---- the machine
 

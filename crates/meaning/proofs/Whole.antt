@@ -12,17 +12,17 @@ use native.Mathlib.Nat.{le-trans}
 use Rattle.entity.specs.Types.{type-count}
 use Rattle.entity.specs.Limits.{limits}
 use Rattle.definition.specs.Base.{put, orElse, has, any, upFrom}
-use Rattle.definition.specs.Form.{Graph, Form, Info, made, param, with-makes, with-preds, with-blocks, graph}
+use Rattle.definition.specs.Form.{Graph, Form, Info, made, param, with-makes, with-preds, with-declared, with-blocks, graph}
 use Rattle.definition.specs.Read.{type-of, write, make, place-block, read, depth}
 use Rattle.definition.specs.Session.{Call, Done, Reply, no, ok, refuse_when_else_, declared-anywhere, no-block, no-var, no-value, no-branch, declare-block}
 use Rattle.definition.specs.Session.{declare-var, make-value, define, use-var, new-branch, new-dest, add-pred, drop-pred, swap-out, but-last, last, seal}
 use Rattle.definition.specs.Session.{seal-form, mark-sealed, seal-each, seal-all, define-answer, answered, reply}
-use Rattle.meaning.specs.Path.{In, Act, makes, gives, uses, act, acts, if-so, declares, defines}
+use Rattle.meaning.specs.Path.{In, Act, makes, gives, uses, act, acts, if-so}
 use Rattle.meaning.specs.Stored.{Nodup}
 use Rattle.meaning.proofs.Maps.{same?, put-same, put-other, put-at, eqb-same, eqb-diff, put₂-at, put₂-other, false-true, or-no, leb-no, ltb-no}
 use Rattle.meaning.proofs.Maps.{not-no}
 use Rattle.meaning.proofs.Facts.{cur}
-use Rattle.meaning.proofs.Lists.{nodup-snoc, in-left, in-right, in-cases, has-in, in-has, map-in, in-one, put-in}
+use Rattle.meaning.proofs.Lists.{nodup-snoc, in-left, in-cases, has-in, in-has, map-in, in-one, put-in}
 use Rattle.meaning.proofs.Inv.{Grow, grow-refl, grow-trans, Inv, make-inv, make-grow}
 use Rattle.meaning.proofs.Settle.{relog-inv}
 use Rattle.meaning.proofs.Reading.{Sound, reads}
@@ -34,7 +34,7 @@ pub record Whole (E : Type 0) (g : Graph) (s : Form) (ds : List Done) : Type 0 w
   pub kp : ℕ → List ℕ
   pub inv : Inv g E s kp idle
   pub sound : Sound g
-  pub hist : (b p : ℕ) → In p (g .preds b) → (d : Done) × In d ds × (declares p d ≡ true)
+  pub hist : (b p : ℕ) → In p (g .preds b) → g .declared p ≡ true
   pub own : (b v : ℕ) → s .own v b ≡ cur (λ w. none) (acts b ds) v
   pub tells : (b : ℕ) → Tells s b (λ v. s .entry v b) [] (acts b ds)
 
@@ -47,21 +47,16 @@ module _ (E : Type 0) (g : Graph) (s : Form) (ds : List Done) (h : Whole E g s d
   same-acts b = acts-snoc b ds d ∙ ap (λ (l : List Act). acts b ds ++ l) (quiet b) ∙ append-nil (acts b ds)
 
   pub silent : (g′ : Graph) (s′ : Form) (kp′ : ℕ → List ℕ) → Inv g′ E s′ kp′ idle → Sound g′
-      → ((b p : ℕ) → In p (g′ .preds b) → In p (g .preds b) ⊎ (declares p d ≡ true)) → Grow s s′ → Whole E g′ s′ (ds ++ d ∷ [])
+      → ((b p : ℕ) → In p (g′ .preds b) → g′ .declared p ≡ true) → Grow s s′ → Whole E g′ s′ (ds ++ d ∷ [])
   silent g′ s′ kp′ i G was w = record {
     kp = kp′;
     inv = i;
     sound = G;
-    hist = λ b p j. on b p (h .hist b p) (was b p j);
+    hist = was;
     own = λ b v. w .own v b ∙ h .own b v ∙ ap (λ (l : List Act). cur (λ u. none) l v) (sym (same-acts b));
     tells = λ b. subst (λ (l : List Act). Tells s′ b (λ v. s′ .entry v b) [] l) (sym (same-acts b))
         (tells-mono s s′ (keeps w) b (λ v. s .entry v b) (λ v. s′ .entry v b) [] (λ v o e. w .entry v b o e) (acts b ds) (h .tells b));
   }
-    where
-      on : (b p : ℕ) → (In p (g .preds b) → (e : Done) × In e ds × (declares p e ≡ true)) → In p (g .preds b) ⊎ (declares p d ≡ true)
-          → (e : Done) × In e (ds ++ d ∷ []) × (declares p e ≡ true)
-      on b p old (inl j) = let k = old j in (k .0, in-left (k .0) ds (d ∷ []) (k .1), k .2)
-      on b p old (inr e) = (d, in-right d ds (d ∷ []) (inl refl), e)
 
 pub some-no : (f : ℕ → Bool) (l : List ℕ) → any f l ≡ false → (x : ℕ) → In x l → f x ≡ false
 some-no f (y ∷ l) e x (inl k) = ap f k ∙ or-no (f y) (any f l) e .0
@@ -146,15 +141,15 @@ module _ (E : Type 0) (g : Graph) (s : Form) (ds : List Done) (h : Whole E g s d
 
   -- nothing changes
   nothing : Quiet → (n : ℕ) → Fine (ok n g s)
-  nothing q n = silent E g s ds h (said n) (q n) g s (h .kp) (h .inv) (h .sound) (λ b p i. inl i) (grow-refl s)
+  nothing q n = silent E g s ds h (said n) (q n) g s (h .kp) (h .inv) (h .sound) (h .hist) (grow-refl s)
 
   -- only the graph's counts and marks change, and perhaps the logs
   wider-fine : Quiet → (n bl : ℕ) (ty : List ℕ) (br : ℕ → Bool) (s′ : Form) → Inv g E s′ (h .kp) idle → Grow s s′ → g .blocks ≤ bl
       → ((w : ℕ) → w < length (g .types) → (w < length ty) × (getD ty w 0 ≡ getD (g .types) w 0))
-      → Fine (ok n (graph (g .call) bl ty br (g .dests) (g .preds) (g .sealed)) s′)
+      → Fine (ok n (graph (g .call) bl ty br (g .dests) (g .preds) (g .sealed) (g .declared)) s′)
   wider-fine q n bl ty br s′ i w more typed = silent E g s ds h (said n) (q n) _ s′ (h .kp) (wider-inv g E s′ (h .kp) idle i (g .call) bl ty br more typed)
       (record { range = λ b p k. le-trans (h .sound .range b p k) more; nodup = h .sound .nodup; inside = λ b p k. le-trans (h .sound .inside b p k) more; names = h .sound .names })
-      (λ b p k. inl k) w
+      (h .hist) w
 
   untyped : (w : ℕ) → w < length (g .types) → (w < length (g .types)) × (getD (g .types) w 0 ≡ getD (g .types) w 0)
   untyped w l = (l, refl)
@@ -185,7 +180,7 @@ module _ (E : Type 0) (g : Graph) (s : Form) (ds : List Done) (h : Whole E g s d
   fine-dest q p b =
       check 6 (no-branch g s p || no-block g s b) _ (omega arith) λ _. check 11 (declared-anywhere g p) _ (omega arith) λ e. check 10 (leb (limits .dests) (length (g .dests p))) _ (omega arith) λ _.
       silent E g s ds h (said (length (g .dests p))) (q (length (g .dests p))) _ s (h .kp) (aimed-inv g E s (h .kp) idle (h .inv) p b (nowhere e))
-      (record { range = h .sound .range; nodup = h .sound .nodup; inside = h .sound .inside; names = names }) (λ c r i. inl i) (grow-refl s)
+      (record { range = h .sound .range; nodup = h .sound .nodup; inside = h .sound .inside; names = names }) (h .hist) (grow-refl s)
     where
       nowhere : declared-anywhere g p ≡ false → (c : ℕ) → In p (g .preds c) → ⊥
       nowhere e c i = false-true (some-no (λ d. has p (g .preds d)) (upFrom 0 (g .blocks)) e c (up-in (g .blocks) 0 c (omega arith) (omega (arith, h .sound .inside c p i)))) (has-in p (g .preds c) i)
@@ -197,34 +192,38 @@ module _ (E : Type 0) (g : Graph) (s : Form) (ds : List Done) (h : Whole E g s d
       ]
 
   -- other predecessors of an unsealed block
-  joined-fine : Quiet → (n b : ℕ) (ps : List ℕ) → g .sealed b ≡ false → b < g .blocks → Nodup ps
+  joined-fine : Quiet → (n b : ℕ) (ps : List ℕ) (dc : ℕ → Bool) → g .sealed b ≡ false → b < g .blocks → Nodup ps
       → ((p : ℕ) → In p ps → (p < g .blocks) × In b (g .dests p))
-      → ((p : ℕ) → In p ps → In p (g .preds b) ⊎ (declares p (said n) ≡ true)) → Fine (ok n (with-preds g (put b ps (g .preds))) s)
-  joined-fine q n b ps z lb nd good was = silent E g s ds h (said n) (q n) _ s (h .kp) (joined-inv g E s (h .kp) idle (h .inv) b ps z)
+      → ((p : ℕ) → In p ps → dc p ≡ true) → ((p : ℕ) → g .declared p ≡ true → dc p ≡ true)
+      → Fine (ok n (with-declared (with-preds g (put b ps (g .preds))) dc) s)
+  joined-fine q n b ps dc z lb nd good marked still = silent E g s ds h (said n) (q n) _ s (h .kp) (joined-inv g E s (h .kp) idle (h .inv) b ps dc z)
       (record {
         range = λ c p i. elim (put-in p b ps (g .preds) c i) [ inl k ↦ good p (k .1) .0 | inr j ↦ h .sound .range c p j ];
         nodup = λ c. elim (same? c b) [ inl k ↦ rw (put-at b ps (g .preds) c k) nd | inr k ↦ rw (put-other b ps (g .preds) c k) (h .sound .nodup c) ];
         inside = λ c p i. elim (put-in p b ps (g .preds) c i) [ inl k ↦ rw (k .0) lb | inr j ↦ h .sound .inside c p j ];
         names = λ c p i. elim (put-in p b ps (g .preds) c i) [ inl k ↦ rw (k .0) (good p (k .1) .1) | inr j ↦ h .sound .names c p j ];
       })
-      (λ c p i. elim (put-in p b ps (g .preds) c i) [ inl k ↦ rw (k .0) (was p (k .1)) | inr j ↦ inl j ]) (grow-refl s)
+      (λ c p i. elim (put-in p b ps (g .preds) c i) [ inl k ↦ marked p (k .1) | inr j ↦ still p (h .hist c p j) ]) (grow-refl s)
 
-  fine-pred : Quiet → (b p : ℕ) → ((n : ℕ) → declares p (said n) ≡ true) → Fine (add-pred g s b p)
-  fine-pred q b p dec =
+  fine-pred : Quiet → (b p : ℕ) → Fine (add-pred g s b p)
+  fine-pred q b p =
       check 6 (no-block g s b || no-branch g s p) _ (omega arith) λ e₆. check 8 (g .sealed b) _ (omega arith) λ e₈. check 13 (not (has b (g .dests p))) _ (omega arith) λ e₁₃.
       check 12 (has p (g .preds b)) _ (omega arith) λ e₁₂.
       let o = or-no (no-block g s b) (no-branch g s p) e₆ in
       let lp = leb-no (g .blocks) p (or-no (no-block g s p) (not (g .branch p)) (o .1) .0) in
       let d = in-has b (g .dests p) (not-no (has b (g .dests p)) e₁₃) in
-      joined-fine q (suc (length (g .preds b))) b (g .preds b ++ p ∷ []) e₈ (leb-no (g .blocks) b (o .0))
+      joined-fine q (suc (length (g .preds b))) b (g .preds b ++ p ∷ []) (put p true (g .declared)) e₈ (leb-no (g .blocks) b (o .0))
       (nodup-snoc (g .preds b) p (h .sound .nodup b) (λ i. false-true e₁₂ (has-in p (g .preds b) i)))
       (λ r i. elim (in-cases r (g .preds b) (p ∷ []) i) [ inl j ↦ (h .sound .range b r j, h .sound .names b r j) | inr j ↦ rw (in-one r p j) (lp, d) ])
-      (λ r i. elim (in-cases r (g .preds b) (p ∷ []) i) [ inl j ↦ inl j | inr j ↦ inr (rw (in-one r p j) (dec (suc (length (g .preds b))))) ])
+      (λ r i. elim (in-cases r (g .preds b) (p ∷ []) i) [ inl j ↦ ever r (h .hist b r j) | inr j ↦ put-at p true (g .declared) r (in-one r p j) ]) ever
+    where
+      ever : (r : ℕ) → g .declared r ≡ true → put p true (g .declared) r ≡ true
+      ever r e = elim (same? r p) [ inl k ↦ put-at p true (g .declared) r k | inr n ↦ put-other p true (g .declared) r n ∙ e ]
 
   fine-seal : Quiet → (b : ℕ) → Fine (seal g s b)
   fine-seal q b = check 6 (no-block g s b) _ (omega arith) λ _. check 8 (g .sealed b) _ (omega arith) λ e.
       let r = sealed-one g E s (h .kp) (h .inv) b e (h .sound) in
-      silent E g s ds h _ (q _) (mark-sealed g b) (seal-form g s b) (r .kp) (r .inv) (h .sound) (λ c p i. inl i) (r .grow)
+      silent E g s ds h _ (q _) (mark-sealed g b) (seal-form g s b) (r .kp) (r .inv) (h .sound) (h .hist) (r .grow)
 
   -- a call that is the act a of block x, and of no other
   module _ (n x : ℕ) (a : Act) (is : (b : ℕ) → act b (said n) ≡ if-so (eqb x b) a) (s′ : Form) (kp′ : ℕ → List ℕ)
@@ -248,7 +247,7 @@ module _ (E : Type 0) (g : Graph) (s : Form) (ds : List Done) (h : Whole E g s d
       kp = kp′;
       inv = i;
       sound = h .sound;
-      hist = λ b p j. let k = h .hist b p j in (k .0, in-left (k .0) ds (said n ∷ []) (k .1), k .2);
+      hist = h .hist;
       own = λ b v. elim (same? b x) [
         | inl e ↦ rw (e, acts-here, cur-append (λ w. none) (acts x ds) (a ∷ [])) (here v)
         | inr d ↦ rw (acts-else b d) (other b v d ∙ h .own b v)
@@ -286,11 +285,11 @@ module _ (E : Type 0) (g : Graph) (s : Form) (ds : List Done) (h : Whole E g s d
       new : make made y x s₁ .info (s .next) ≡ record { sort = made; type = y; home = x }
       new = put-same (s .next) (record { sort = made; type = y; home = x }) (s .info)
 
-  fine-define : (v x b : ℕ) → ((n c : ℕ) → act c (said n) ≡ if-so (eqb b c) (gives v n))
-      → (E → define g s v x b ≡ ok x g (write v b x s) → (c : ℕ) → In b (g .preds c) → ⊥) → Fine (define g s v x b)
-  fine-define v x b is nowhere =
-      check 6 (no-var g s v || no-value g s x || no-block g s b) _ (omega arith) λ e₆. check 7 (not (eqb (s .info x .type) (type-of g v))) _ (omega arith) λ e₇.
-      spoken x b (gives v x) (is x) (write v b x s) (h .kp) (write-inv g E s (h .kp) idle (h .inv) v b x (λ ok-e. nowhere ok-e (rw (e₆, e₇) refl)))
+  fine-define : (v x b : ℕ) → ((n c : ℕ) → act c (said n) ≡ if-so (eqb b c) (gives v n)) → Fine (define g s v x b)
+  fine-define v x b is =
+      check 6 (no-var g s v || no-value g s x || no-block g s b) _ (omega arith) λ _. check 7 (not (eqb (s .info x .type) (type-of g v))) _ (omega arith) λ _.
+      check 20 (g .declared b) _ (omega arith) λ e₂₀.
+      spoken x b (gives v x) (is x) (write v b x s) (h .kp) (write-inv g E s (h .kp) idle (h .inv) v b x (λ c i. false-true e₂₀ (h .hist c b i)))
       (record { res = λ y z q. q; info = λ y l. refl; more = omega arith }) (λ c w e q. q)
       (λ w. elim (same? w v) [
         | inl q ↦ put₂-at v b (some x) (s .own) w b q refl ∙ sym (put-at v (some x) (cur (λ u. none) (acts b ds)) w q)
@@ -320,11 +319,11 @@ module _ (E : Type 0) (g : Graph) (s : Form) (ds : List Done) (h : Whole E g s d
     inv : Inv (r .0) E (r .1) kp idle
     sound : Sound (r .0)
     grow : Grow s₀ (r .1)
-    preds : (b p : ℕ) → In p (r .0 .preds b) → In p (g₀ .preds b)
+    hist : ((b p : ℕ) → In p (g₀ .preds b) → g₀ .declared p ≡ true) → (b p : ℕ) → In p (r .0 .preds b) → r .0 .declared p ≡ true
 
   each : (bs : List ℕ) (g₀ : Graph) (s₀ : Form) (kp : ℕ → List ℕ) → Inv g₀ E s₀ kp idle → Sound g₀
       → Each g₀ s₀ (seal-each bs g₀ s₀)
-  each [] g₀ s₀ kp i G = record { kp = kp; inv = i; sound = G; grow = grow-refl s₀; preds = λ b p j. j }
+  each [] g₀ s₀ kp i G = record { kp = kp; inv = i; sound = G; grow = grow-refl s₀; hist = λ e. e }
   each (b ∷ bs) g₀ s₀ kp i G = by (g₀ .sealed b) refl (each bs g₀ s₀ kp i G) (λ e. let r = sealed-one g₀ E s₀ kp i b e G in
       each bs (mark-sealed g₀ b) (seal-form g₀ s₀ b) (r .kp) (r .inv) G)
     where
@@ -342,47 +341,41 @@ module _ (E : Type 0) (g : Graph) (s : Form) (ds : List Done) (h : Whole E g s d
             sound = k .sound;
             grow = grow-trans s₀ (seal-form g₀ s₀ b)
                 (seal-each bs (mark-sealed g₀ b) (seal-form g₀ s₀ b) .1) (r .grow) (k .grow);
-            preds = k .preds;
+            hist = k .hist;
           }
 
   fine-all : Quiet → Fine (seal-all g s)
   fine-all q = let r = each (upFrom 0 (g .blocks)) g s (h .kp) (h .inv) (h .sound) in
-      silent E g s ds h _ (q _) (seal-each (upFrom 0 (g .blocks)) g s .0) (seal-each (upFrom 0 (g .blocks)) g s .1) (r .kp) (r .inv) (r .sound) (λ b p i. inl (r .preds b p i)) (r .grow)
+      silent E g s ds h _ (q _) (seal-each (upFrom 0 (g .blocks)) g s .0) (seal-each (upFrom 0 (g .blocks)) g s .1) (r .kp) (r .inv) (r .sound) (r .hist (h .hist)) (r .grow)
 
   fine-drop : Quiet → (b p : ℕ) → Fine (drop-pred g s b p)
   fine-drop q b p = check 6 (no-block g s b || no-branch g s p) _ (omega arith) λ e₆. check 8 (g .sealed b) _ (omega arith) λ e₈. check 13 (not (has p (g .preds b))) _ (omega arith) λ _.
-      joined-fine q _ b (swap-out p (g .preds b)) e₈ (leb-no (g .blocks) b (or-no (no-block g s b) (no-branch g s p) e₆ .0)) (out-nodup p (g .preds b) (h .sound .nodup b))
-      (λ r i. let j = out-in p (g .preds b) r i in (h .sound .range b r j, h .sound .names b r j)) (λ r i. inl (out-in p (g .preds b) r i))
+      joined-fine q _ b (swap-out p (g .preds b)) (g .declared) e₈ (leb-no (g .blocks) b (or-no (no-block g s b) (no-branch g s p) e₆ .0)) (out-nodup p (g .preds b) (h .sound .nodup b))
+      (λ r i. let j = out-in p (g .preds b) r i in (h .sound .range b r j, h .sound .names b r j)) (λ r i. h .hist b r (out-in p (g .preds b) r i)) (λ r e. e)
 
   fine-define-at : (v b : ℕ) (o : Option ℕ) → ((n e : ℕ) → act e (said n) ≡ if-so (eqb b e) (gives v n))
-      → (E → (x : ℕ) → define-answer g s v b o ≡ ok x g (write v b x s) → (e : ℕ) → In b (g .preds e) → ⊥)
       → Fine (define-answer g s v b o)
-  fine-define-at v b none is nowhere = omega arith
-  fine-define-at v b (some x) is nowhere = fine-define v x b is (λ ok-e. nowhere ok-e x)
+  fine-define-at v b none is = omega arith
+  fine-define-at v b (some x) is = fine-define v x b is
 
   fine-ask : Quiet → (b : ℕ) (n : ℕ) → Fine (refuse_when_else_ 6 (no-block g s b) (ok n g s))
   fine-ask q b n = check 6 (no-block g s b) _ (omega arith) λ _. nothing q n
 
-  -- the reply to the call of kind k, where no definition comes late
-  abbrev pub Timely : Reply → Type 0
-  Timely r = (n : ℕ) (g′ : Graph) (s′ : Form) → r ≡ ok n g′ s′ → (z : ℕ) → defines z (said n) ≡ true → (d : Done) → In d ds → declares z d ≡ true → ⊥
-
-  pub fine : (k : ℕ) → c .kind ≡ k → (E → Timely (reply g s ds (c .x) (c .y) (c .z) k)) → Fine (reply g s ds (c .x) (c .y) (c .z) k)
-  fine zero e t = omega arith
-  fine (suc zero) e t = fine-block (λ n b. rw e refl) (c .x)
-  fine (suc (suc zero)) e t = fine-var (λ n b. rw e refl) (c .x) (c .y)
-  fine (suc (suc (suc zero))) e t = fine-make (c .x) (c .y) (λ n b. rw e (append-nil (if-so (eqb (c .x) b) (makes n) ++ []) ∙ append-nil (if-so (eqb (c .x) b) (makes n))))
-  fine (suc (suc (suc (suc zero)))) e t = fine-define (c .x) (c .y) (c .z) (λ n b. rw e (append-nil (if-so (eqb (c .z) b) (gives (c .x) n))))
-      (λ ok-e q b i. let k = h .hist b (c .z) i in t ok-e (c .y) g (write (c .x) (c .z) (c .y) s) q (c .z) (rw e (eqb-same (c .z))) (k .0) (k .1) (k .2))
-  fine (suc (suc (suc (suc (suc zero))))) e t = fine-define-at (c .x) (c .z) (answered ds (c .y)) (λ n b. rw e (append-nil (if-so (eqb (c .z) b) (gives (c .x) n))))
-      (λ ok-e x q b i. let k = h .hist b (c .z) i in t ok-e x g (write (c .x) (c .z) x s) q (c .z) (rw e (eqb-same (c .z))) (k .0) (k .1) (k .2))
-  fine (suc (suc (suc (suc (suc (suc zero)))))) e t = fine-use (c .x) (c .y) (λ n b. rw e refl)
-  fine (suc (suc (suc (suc (suc (suc (suc zero))))))) e t = fine-branch (λ n b. rw e refl) (c .x)
-  fine (suc (suc (suc (suc (suc (suc (suc (suc zero)))))))) e t = fine-dest (λ n b. rw e refl) (c .x) (c .y)
-  fine (suc (suc (suc (suc (suc (suc (suc (suc (suc zero))))))))) e t = fine-pred (λ n b. rw e refl) (c .x) (c .y) (λ n. rw e (eqb-same (c .y)))
-  fine (suc (suc (suc (suc (suc (suc (suc (suc (suc (suc zero)))))))))) e t = fine-drop (λ n b. rw e refl) (c .x) (c .y)
-  fine (suc (suc (suc (suc (suc (suc (suc (suc (suc (suc (suc zero))))))))))) e t = fine-seal (λ n b. rw e refl) (c .x)
-  fine (suc (suc (suc (suc (suc (suc (suc (suc (suc (suc (suc (suc zero)))))))))))) e t = fine-all (λ n b. rw e refl)
-  fine (suc (suc (suc (suc (suc (suc (suc (suc (suc (suc (suc (suc (suc zero))))))))))))) e t = fine-ask (λ n b. rw e refl) (c .x) _
-  fine (suc (suc (suc (suc (suc (suc (suc (suc (suc (suc (suc (suc (suc (suc zero)))))))))))))) e t = fine-ask (λ n b. rw e refl) (c .x) _
-  fine (suc (suc (suc (suc (suc (suc (suc (suc (suc (suc (suc (suc (suc (suc (suc k))))))))))))))) e t = omega arith
+  -- the reply to the call of kind k
+  pub fine : (k : ℕ) → c .kind ≡ k → Fine (reply g s ds (c .x) (c .y) (c .z) k)
+  fine zero e = omega arith
+  fine (suc zero) e = fine-block (λ n b. rw e refl) (c .x)
+  fine (suc (suc zero)) e = fine-var (λ n b. rw e refl) (c .x) (c .y)
+  fine (suc (suc (suc zero))) e = fine-make (c .x) (c .y) (λ n b. rw e (append-nil (if-so (eqb (c .x) b) (makes n) ++ []) ∙ append-nil (if-so (eqb (c .x) b) (makes n))))
+  fine (suc (suc (suc (suc zero)))) e = fine-define (c .x) (c .y) (c .z) (λ n b. rw e (append-nil (if-so (eqb (c .z) b) (gives (c .x) n))))
+  fine (suc (suc (suc (suc (suc zero))))) e = fine-define-at (c .x) (c .z) (answered ds (c .y)) (λ n b. rw e (append-nil (if-so (eqb (c .z) b) (gives (c .x) n))))
+  fine (suc (suc (suc (suc (suc (suc zero)))))) e = fine-use (c .x) (c .y) (λ n b. rw e refl)
+  fine (suc (suc (suc (suc (suc (suc (suc zero))))))) e = fine-branch (λ n b. rw e refl) (c .x)
+  fine (suc (suc (suc (suc (suc (suc (suc (suc zero)))))))) e = fine-dest (λ n b. rw e refl) (c .x) (c .y)
+  fine (suc (suc (suc (suc (suc (suc (suc (suc (suc zero))))))))) e = fine-pred (λ n b. rw e refl) (c .x) (c .y)
+  fine (suc (suc (suc (suc (suc (suc (suc (suc (suc (suc zero)))))))))) e = fine-drop (λ n b. rw e refl) (c .x) (c .y)
+  fine (suc (suc (suc (suc (suc (suc (suc (suc (suc (suc (suc zero))))))))))) e = fine-seal (λ n b. rw e refl) (c .x)
+  fine (suc (suc (suc (suc (suc (suc (suc (suc (suc (suc (suc (suc zero)))))))))))) e = fine-all (λ n b. rw e refl)
+  fine (suc (suc (suc (suc (suc (suc (suc (suc (suc (suc (suc (suc (suc zero))))))))))))) e = fine-ask (λ n b. rw e refl) (c .x) _
+  fine (suc (suc (suc (suc (suc (suc (suc (suc (suc (suc (suc (suc (suc (suc zero)))))))))))))) e = fine-ask (λ n b. rw e refl) (c .x) _
+  fine (suc (suc (suc (suc (suc (suc (suc (suc (suc (suc (suc (suc (suc (suc (suc k))))))))))))))) e = omega arith

@@ -55,7 +55,7 @@ On-time all = (p : ℕ) (ds es : List Done) (d e : Done) → all ≡ ds ++ d ∷
 abbrev pub Had : ℕ → List Act → Type 0
 Had x us = In (makes x) us ⊎ ((w : ℕ) × In (uses w x) us)
 
--- The suppositions of demand 3, of a finished session.
+-- The suppositions of demand 3, of a finished session; and `None-late`, which every session meets.
 module _ (t : State) where
   -- every block is sealed
   abbrev pub All-sealed : Type 0
@@ -81,7 +81,6 @@ module _ (t : State) where
     pub all-sealed : All-sealed
     pub none-enters-0 : None-enters-0
     pub all-declared : All-declared
-    pub none-late : None-late
     pub own-values : Own-values
 
 -- Words that values hold, and the unset value of each type.

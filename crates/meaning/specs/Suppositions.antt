@@ -1,25 +1,16 @@
 -- The suppositions of demand 3, each decided by looking at the finished session.
 -- Assumes nothing.
 use Prim.Native.Nat.{ℕ, zero, suc}
-use mathlib.Core.Bool.{Bool, true, not, _&&_, _||_}
+use mathlib.Core.Bool.{Bool, true, not, _&&_}
 use mathlib.Core.List.{List, [], _∷_}
 use Rattle.definition.specs.Base.{has, every}
-use Rattle.definition.specs.Session.{Done, State}
-use Rattle.meaning.specs.Path.{Act, makes, gives, uses, acts, declares, defines}
+use Rattle.definition.specs.Session.{State}
+use Rattle.meaning.specs.Path.{Act, makes, gives, uses, acts}
 
 -- f holds of each number below n
 abbrev pub below : ℕ → (ℕ → Bool) → Bool
 below zero f = true
 below (suc n) f = f n && below n f
-
-abbrev pub defines-none : ℕ → List Done → Bool
-defines-none p [] = true
-defines-none p (e ∷ es) = not (defines p e) && defines-none p es
-
--- after each declaration nothing is defined in its block
-abbrev pub on-time? : List Done → Bool
-on-time? [] = true
-on-time? (d ∷ es) = (not (declares (d .asked .y) d) || defines-none (d .asked .y) es) && on-time? es
 
 -- each definition takes a value of l, or one that was made or answered before
 abbrev pub owned? : List ℕ → List Act → Bool
@@ -38,12 +29,9 @@ module _ (t : State) where
   abbrev pub all-declared? : Bool
   all-declared? = below (t .graph .blocks) (λ p. every (λ b. has p (t .graph .preds b)) (t .graph .dests p))
 
-  abbrev pub none-late? : Bool
-  none-late? = on-time? (t .done)
-
   abbrev pub own-values? : Bool
   own-values? = below (t .graph .blocks) (λ b. owned? [] (acts b (t .done)))
 
--- all five
+-- all four
 abbrev pub supposed? : State → Bool
-supposed? t = all-sealed? t && none-enters-0? t && all-declared? t && none-late? t && own-values? t
+supposed? t = all-sealed? t && none-enters-0? t && all-declared? t && own-values? t

@@ -38,6 +38,8 @@ pub const DECLARED_HERE: u32 = 12;
 
 pub const UNRELATED: u32 = 13;
 
+pub const LATE: u32 = 20;
+
 // A refused call has the number 0 and leaves the counts as they were.
 pub fn refuse(code: u32, c: Counts) -> Reply
     ensures { λ r. ⌜ r ≡ refusal code c ⌝ }

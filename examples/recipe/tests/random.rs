@@ -22,26 +22,21 @@ fn inputs(rng: &mut Rng) -> Vec<Number> {
     (0..INPUTS).map(|place| if place % 2 == 0 { Number::Float(rng.float()) } else { Number::Int(rng.int()) }).collect()
 }
 
-/// The five suppositions, read from the calls and the tables.
-fn supposed(ssa: &SSABuilder) -> [bool; 5] {
+/// The four suppositions, read from the calls and the tables.
+fn supposed(ssa: &SSABuilder) -> [bool; 4] {
     let session = ssa.session();
     let ways = || {
         let branches = session.blocks().filter_map(|block| session.branch(block).unwrap());
         branches.flat_map(|branch| session.destinations(branch).unwrap().map(move |way| (branch, way.target)))
     };
-    let (mut late, mut foreign) = (false, false);
-    let mut declared = vec![];
+    let mut foreign = false;
     let mut own = vec![];
     for ([kind, x, y, z], answer) in ssa.list().calls().zip(session.answers()) {
         let answer = answer.expect("a builder keeps accepted calls");
         match Kind::from_number(kind).unwrap() {
             Kind::MakeValue => own.push((x, answer)),
             Kind::UseVar => own.push((y, answer)),
-            Kind::DeclareBlockPredecessor => declared.push(y),
-            Kind::DefVar => {
-                late |= declared.contains(&z);
-                foreign |= !own.contains(&(z, y));
-            }
+            Kind::DefVar => foreign |= !own.contains(&(z, y)),
             _ => {}
         }
     }
@@ -49,7 +44,6 @@ fn supposed(ssa: &SSABuilder) -> [bool; 5] {
         session.blocks().all(|block| session.is_sealed(block).unwrap()),
         ways().all(|(_, to)| to != Block(0)),
         ways().all(|(branch, to)| session.predecessors(to).unwrap().any(|other| other == branch)),
-        !late,
         !foreign,
     ]
 }
@@ -60,7 +54,7 @@ fn the_form_gives_what_the_script_gives() {
     for number in 0..SCRIPTS {
         let (script, mut rng) = script(number);
         let Recipe { form, ssa } = compile(&script).unwrap_or_else(|said| panic!("{said}\n{script}"));
-        assert_eq!(supposed(&ssa), [true; 5], "{script}");
+        assert_eq!(supposed(&ssa), [true; 4], "{script}");
         assert!(fed(&form), "{script}");
         for _ in 0..4 {
             let inputs = inputs(&mut rng);

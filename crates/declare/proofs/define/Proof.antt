@@ -1,13 +1,25 @@
--- `define` meets its contract: the checks are the definition's, and the store is its `write`.
+-- `define` meets its contract: the checks are the definition's, the mark of a branch that was declared last, and the store is its `write`.
 -- e1 is the place past the first check, and so on. Assumes nothing.
 use borrow.Author.Needs.{needs}
 use borrow.Author.Tests.{le-leb, lt-leb, eq-eqb, ne-eqb}
 use Prim.Native.Nat.{_<_}
-use mathlib.Core.Path.{refl, sym, _∙_}
-use Rattle.definition.specs.Read.{type-of}
+use mathlib.Core.Path.{_≡_, refl, sym, _∙_}
+use Rattle.definition.specs.Read.{type-of, write}
+use Rattle.definition.specs.Session.{State, define, ok, refuse_when_else_}
+use Rattle.form.proofs.record_def.Reads as record-def-reads
+use Rattle.form.proofs.value_type.Reads as value-type-reads
+use Rattle.graph.proofs.ever_declared.Reads as ever-declared-reads
+use Rattle.graph.proofs.variable_type.Reads as variable-type-reads
+use Rattle.reply.specs.Replies.{Showing}
+use Rattle.reply.proofs.accept.Reads as accept-reads
+use Rattle.reply.proofs.no_block.Reads as no-block-reads
+use Rattle.reply.proofs.no_var.Reads as no-var-reads
+use Rattle.reply.proofs.refuse.Reads as refuse-reads
 use Rattle.reply.proofs.Asked.{seen, seen-some}
 use Rattle.reply.proofs.Answered.{tested, refused, changed, accepted}
 use Rattle.declare.proofs.Can.{has-value, value-typed, value-small, has-def}
+use Rattle.declare.proofs.define.Reads as reads
+use Rattle.declare.proofs.define.Lts as lts
 use Rattle.declare.proofs.define.Statement.{statement}
 use Rattle.declare.proofs.define.Tie as tie
 
@@ -62,17 +74,35 @@ returns-4 c =
     )
     (refused h (c .refuse4 .ensures))
 
-record-def-requires : tie.Need-record-def-requires
-record-def-requires c κs =
-    let e3 = c .before .before .before .before .before in
-    let e2 = e3 .before .before in
-    let e1 = e2 .before .before in
-    let p = e1 .before .before .before .before .pre in
-    ((_, has-def (p .1) _ _ (e1 .before .no-var .ensures .0 (e1 .if1 .left)) (e3 .before .no-block .ensures .0 (e3 .if3 .left))), value-small (p .1) _ (rw (← p .1 .leaves .form .next) (e2 .if2 .left)))
+-- the place past the types
+abbrev Typed : Type 0
+Typed =
+    lts.Else4 (
+      no-var-reads.Asked,
+      no-var-reads.Learnt,
+      refuse-reads.Asked,
+      refuse-reads.Learnt,
+      no-block-reads.Asked,
+      no-block-reads.Learnt,
+      value-type-reads.Asked,
+      value-type-reads.Learnt,
+      variable-type-reads.Asked,
+      variable-type-reads.Learnt,
+      ever-declared-reads.Asked,
+      ever-declared-reads.Learnt,
+      record-def-reads.Asked,
+      record-def-reads.Learnt,
+      accept-reads.Asked,
+      accept-reads.Learnt,
+    )
+    reads.Pre reads.Post
 
-returns-5 : tie.Need-returns-5
-returns-5 c =
-    let e4 = c .before .before .before .before .before in
+-- there the mark alone decides
+mark-decides : (e4 : Typed) → let a = e4 .before .before .before .before .before .before .before .before .before .before .before .before .args in
+    (t : State) → Showing (a .graph .now) (a .form .now) (a .c) t
+    → define (t .graph) (t .form) (a .x) (a .y) (a .z)
+    ≡ (refuse 20 when t .graph .declared (a .z) else ok (a .y) (t .graph) (write (a .x) (a .z) (a .y) (t .form)))
+mark-decides e4 =
     let e3 = e4 .before .before .before .before in
     let e2 = e3 .before .before in
     let e1 = e2 .before .before in
@@ -85,10 +115,36 @@ returns-5 c =
       tested (e3 .before .no-block .ensures .1 _ (t .form) (seen h)) (e3 .if3 .left),
       eq-eqb (t .form .info (a .y) .type) (type-of (t .graph) (a .x)) (tested (e4 .before .before .value-type .ensures .1 _ (has-value h _ l) (value-typed h _ l)) (e4 .if4 .left) ∙ e4 .before .variable-type .ensures _ (seen h)),
     )
+    refl
+
+ever-declared-requires : tie.Need-ever-declared-requires
+ever-declared-requires c κs =
+    let e3 = c .before .before .before .before in
+    (seen-some (e3 .before .before .before .before .before .before .before .before .pre), e3 .before .no-block .ensures .0 (e3 .if3 .left))
+
+returns-5 : tie.Need-returns-5
+returns-5 c = λ t h. rw (mark-decides (c .before .before .before) t h, tested (c .before .before .ever-declared .ensures _ (seen h)) (c .before .if5 .taken)) (refused h (c .refuse5 .ensures))
+
+record-def-requires : tie.Need-record-def-requires
+record-def-requires c κs =
+    let e3 = c .before .before .before .before .before .before .before in
+    let e2 = e3 .before .before in
+    let e1 = e2 .before .before in
+    let p = e1 .before .before .before .before .pre in
+    ((_, has-def (p .1) _ _ (e1 .before .no-var .ensures .0 (e1 .if1 .left)) (e3 .before .no-block .ensures .0 (e3 .if3 .left))), value-small (p .1) _ (rw (← p .1 .leaves .form .next) (e2 .if2 .left)))
+
+returns-6 : tie.Need-returns-6
+returns-6 c =
+    let e5 = c .before .before .before .before .before in
+    let e3 = e5 .before .before .before .before .before .before in
+    let e1 = e3 .before .before .before .before in
+    λ t h.
+    rw (mark-decides (e5 .before .before) t h, tested (e5 .before .ever-declared .ensures _ (seen h)) (e5 .if5 .left))
     (accepted (c .accept .ensures) refl (changed h refl refl (seen h .cells) (c .before .before .before .record-def .ensures .own _ (has-def h _ _ (e1 .before .no-var .ensures .0 (e1 .if1 .left)) (e3 .before .no-block .ensures .0 (e3 .if3 .left))))))
 
 pub define-spec : {M : Type 1} → statement M
 define-spec = tie.close (tie.spec
     no-var-requires (λ c κs. search needs) returns (λ c κs. search needs) returns-2 no-block-requires
     (λ c κs. search needs) returns-3 value-type-requires variable-type-requires (λ c κs. search needs)
-    (λ c. search needs) returns-4 record-def-requires (λ c κs. search needs) (λ c. search needs) returns-5)
+    (λ c. search needs) returns-4 ever-declared-requires (λ c κs. search needs) (λ c. search needs) returns-5
+    record-def-requires (λ c κs. search needs) (λ c. search needs) returns-6)
