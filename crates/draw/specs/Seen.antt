@@ -2,7 +2,6 @@
 -- Assumes nothing.
 use Prim.Native.Nat.{ℕ}
 use mathlib.Core.List.{List, []}
-use lib.ListN.{getD}
 use Rattle.definition.specs.Base.{if_then_else_}
 use Rattle.definition.specs.Form.{Graph, Form}
 use Rattle.layout.specs.Rows.{entries}
