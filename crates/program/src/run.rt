@@ -120,7 +120,7 @@ fn picture(
         return n;
     }
     let k = drawn.length;
-    dump::out::text(out, n, &text[..k])
+    phrases::out::text(out, n, &text[..k])
 }
 
 // Shows what a session of k calls left.

@@ -3,8 +3,8 @@
 use borrow.Author.Needs.{needs}
 use Prim.Native.Nat.{_-_}
 use lib.ListN.{length}
-use Rattle.dump.proofs.say.start_of.Statement.{statement}
-use Rattle.dump.proofs.say.start_of.Tie as tie
+use Rattle.phrases.proofs.say.start_of.Statement.{statement}
+use Rattle.phrases.proofs.say.start_of.Tie as tie
 
 abbrev Inv-loop : tie.InvT-loop
 Inv-loop s k left₀ i₀ left i = Unit {0}

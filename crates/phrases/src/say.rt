@@ -72,13 +72,20 @@ fn type_name(out: &mut [u8], n: usize, x: usize) -> usize {
     number(out, n, x)
 }
 
+// The number that a digit stands for.
+fn of_digit(b: u8, x: Numbers) -> usize {
+    match b {
+        b'0' => return x.a,
+        b'1' => return x.b,
+        b'2' => return x.c,
+        b'3' => return x.d,
+        _ => return x.e,
+    }
+}
+
 fn piece(out: &mut [u8], n: usize, b: u8, x: Numbers) -> usize {
     match b {
-        b'0' => return number(out, n, x.a),
-        b'1' => return number(out, n, x.b),
-        b'2' => return number(out, n, x.c),
-        b'3' => return number(out, n, x.d),
-        b'4' => return number(out, n, x.e),
+        b'0'..=b'4' => return number(out, n, of_digit(b, x)),
         b'T' => return type_name(out, n, x.c),
         b';' => return byte(out, n, b'\n'),
         _ => return byte(out, n, b),

@@ -4,8 +4,8 @@ use borrow.Author.Needs.{needs}
 use Prim.Native.Nat.{_-_}
 use mathlib.Core.Path.{_≡_}
 use lib.ListN.{length}
-use Rattle.dump.proofs.out.text.Statement.{statement}
-use Rattle.dump.proofs.out.text.Tie as tie
+use Rattle.phrases.proofs.out.text.Statement.{statement}
+use Rattle.phrases.proofs.out.text.Tie as tie
 
 abbrev Inv-loop : tie.InvT-loop
 Inv-loop out₀ n s m₀ i₀ out m i = (length out ≡ length out₀)
