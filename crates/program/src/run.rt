@@ -1,8 +1,7 @@
 // Runs a list over tables of its own, and shows what the session leaves.
 ghost use mathlib.Core.Path.{_≡_};
-ghost use Prim.Native.Nat.{_*_, _<_, _≤_};
+ghost use Prim.Native.Nat.{suc, _*_, _<_, _≤_};
 ghost use lib.ListN.{length};
-ghost use Prim.Native.Nat.{suc, _*_};
 ghost use Rattle.entity.specs.Limits.{limits, param-room, graph-need, form-need, work-need};
 use crate::PICTURE;
 use crate::WORDS;
