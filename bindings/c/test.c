@@ -1,5 +1,5 @@
-/* Two branches give a reading different values; after the join a parameter stands for it, and is drawn. Then the refusals of a whole session, rows and
- * resolving. */
+/* Two branches give a reading different values; after the join a parameter stands for it, and is drawn. Then the refusals of a whole session, unset
+ * values, a loop that carries an index, and resolving. */
 #include "sangvireb.h"
 #include <stdio.h>
 #include <string.h>
@@ -23,7 +23,7 @@ int main(void) {
         {4, 0, 1, 2}, {7, 0, 0, 0}, {8, 0, 1, 0}, {8, 0, 2, 0}, {9, 1, 0, 0}, {9, 2, 0, 0}, {7, 1, 0, 0}, {8, 1, 3, 0},
         {9, 3, 1, 0}, {7, 2, 0, 0}, {8, 2, 3, 0}, {9, 3, 2, 0}, {12, 0, 0, 0}, {6, 0, 3, 0}, {6, 9, 3, 0}};
     enum { N = sizeof calls / sizeof calls[0] };
-    uint32_t k[N], x[N], y[N], z[N], codes[N], numbers[N];
+    uint32_t k[N], x[N], y[N], z[N], codes[N], numbers[N]; /* no later list is longer */
     for (size_t i = 0; i < N; i++) {
         k[i] = calls[i][0], x[i] = calls[i][1], y[i] = calls[i][2], z[i] = calls[i][3];
     }
@@ -111,6 +111,30 @@ int main(void) {
     expect(sangvireb_unset_bits(SANGVIREB_TYPE_I8) == 0 && sangvireb_unset_bits(6) == 0 && sangvireb_unset_bits(UINT32_MAX) == 0,
            "an integer's unset value is 0, and so is that of no type");
 
+    /* a loop that carries an index: block 1's own parameter 0 takes 1 from block 0 and 4 from itself, and the builder's parameter 3 stands behind it */
+    static const uint32_t carried[][4] = {
+        {1, 0, 0, 0}, {1, 1, 0, 0}, {2, 0, 5, 0}, {SANGVIREB_KIND_APPEND_BLOCK_PARAM, 1, 2, 0}, {3, 0, 2, 0}, {3, 0, 5, 0}, {4, 0, 2, 0}, {7, 0, 0, 0},
+        {8, 0, 1, 0}, {16, 0, 2, 0}, {SANGVIREB_KIND_APPEND_ARGUMENT, 0, 1, 0}, {16, 0, 1, 0}, {9, 1, 0, 0}, {15, 1, 2, 0}, {6, 0, 1, 0}, {3, 1, 2, 0},
+        {3, 1, 5, 0}, {4, 0, 5, 1}, {7, 1, 0, 0}, {8, 1, 1, 0}, {16, 1, 4, 0}, {9, 1, 1, 0}, {12, 0, 0, 0}};
+    enum { L = sizeof carried / sizeof carried[0] };
+    for (size_t i = 0; i < L; i++) {
+        k[i] = carried[i][0], x[i] = carried[i][1], y[i] = carried[i][2], z[i] = carried[i][3];
+    }
+    r = sangvireb_session(k, L, x, L, y, L, z, L, codes, L, numbers, L, graph, SANGVIREB_GRAPH_NEED, form, SANGVIREB_FORM_NEED, work,
+                          SANGVIREB_WORK_NEED);
+    for (size_t i = 0; i < L; i++) {
+        uint32_t code = i == 9 ? SANGVIREB_TYPES_DIFFER : i == 11 ? SANGVIREB_NO_PARAM_LEFT : i == 13 ? SANGVIREB_PARAMS_FIXED : 0;
+        expect(r == SANGVIREB_RUN && codes[i] == code, "another type gets 7, one argument too many 18, a parameter after the predecessor 17");
+    }
+    row = sangvireb_params(params, SANGVIREB_PARAM_CELLS, 1);
+    expect(form[SANGVIREB_OWNS + 1] == 1 && row.length == 2 && params[row.start] == 0 && params[row.start + 1] == 3,
+           "the caller's parameter stands before the builder's");
+    expect(SANGVIREB_SORT_OF(form[SANGVIREB_DESCRIBED]) == SANGVIREB_SORT_CALLER_PARAMETER, "and is of its own sort");
+    for (uint32_t p = 0; p < 2; p++) {
+        row = sangvireb_args(args, SANGVIREB_ARG_CELLS, p, 0);
+        expect(row.length == 2 && args[row.start] == 3 * p + 1 && args[row.start + 1] == 3 * p + 2, "each way in brings the index, then the variable");
+    }
+
     const uint32_t targets[] = {1, 2, 2, 4, 3, 9};
     sangvireb_answer a = sangvireb_resolve(targets, 6, 0);
     expect(a.code == 0 && a.number == 2, "0 resolves to 2");
@@ -122,7 +146,7 @@ int main(void) {
     expect(a.code == SANGVIREB_ABSENT && a.number == 0, "a number past the list gets 6");
     a = sangvireb_resolve(NULL, 0, 0);
     expect(a.code == SANGVIREB_ABSENT && a.number == 0, "nothing is in a list of length 0");
-    args[0] = SANGVIREB_VARIABLES + 1;
+    args[0] = SANGVIREB_PARAM_ROOM + 1;
     row = sangvireb_args(args, SANGVIREB_ARG_CELLS, 0, 0);
     expect(row.code == SANGVIREB_ABSENT && row.length == 0, "a count past the row's room gets 6");
     printf("%s\n", failures ? "failed" : "all as expected");

@@ -3,6 +3,9 @@ use sangvireb::raw::*;
 use sangvireb::{Block, Branch};
 use std::collections::HashMap;
 
+/// The sort of a caller's parameter.
+const CALLERS: usize = 3;
+
 /// What must be in the needed cells; the work cells must all be 0.
 pub struct Expected {
     pub codes: Vec<u32>,
@@ -64,6 +67,8 @@ impl Expected {
             }
             ("V", &[value, sort, kind, block, target]) => {
                 self.form[TARGET + value] = target as u32;
+                // a caller's parameter stays one of its block
+                self.form[OWNS + block] += u32::from(sort == CALLERS);
                 self.form[DESCRIBED + value] = (kind + 32 * (sort + 4 * 2 * block)) as u32;
             }
             ("P", [block, params @ ..]) => {
@@ -80,7 +85,7 @@ impl Expected {
                 self.listed(Asked::Args(Branch(*block as u32), *place as u32), args);
             }
             ("R", [block, preds @ ..]) => row(&mut self.graph, PRED_ROWS + PRED_ROW * block, preds),
-            ("U", [block, pending @ ..]) => row(&mut self.form, PENDING_ROWS + PARAM_ROW * block, pending),
+            ("U", [block, pending @ ..]) => row(&mut self.form, PENDING_ROWS + PENDING_ROW * block, pending),
             ("E", &[block, sealed]) => self.graph[SEALED + block] = sealed as u32,
             ("L", &[block, var, value_plus_one]) => self.form[DEFS + BLOCKS * var + block] = value_plus_one as u32,
             ("Z", &[place, call, block]) => {

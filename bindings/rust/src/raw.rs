@@ -6,7 +6,7 @@
 use crate::{library, Block, Branch, Kind, Sort, Type};
 
 /// The version of the library's calls that this package was written for.
-pub const VERSION: u32 = 3;
+pub const VERSION: u32 = 4;
 
 /// Blocks in a session.
 pub const BLOCKS: usize = 64;
@@ -14,8 +14,10 @@ pub const BLOCKS: usize = 64;
 pub const VARIABLES: usize = 64;
 /// Destinations of a branch.
 pub const DESTS: usize = 8;
-/// Values that the caller makes.
+/// Values that the caller makes, its parameters among them.
 pub const MADE: usize = 4096;
+/// Parameters of a block that are the caller's own.
+pub const OWN_PARAMS: usize = 64;
 /// Calls in a list.
 pub const CALLS: usize = 16384;
 
@@ -23,13 +25,19 @@ pub const CALLS: usize = 16384;
 pub const ZERO_ROOM: usize = BLOCKS * VARIABLES;
 /// Values of every sort: those made, and a parameter and a zero for each variable and block.
 pub const VALUE_ROOM: usize = MADE + 2 * ZERO_ROOM;
+/// Parameters of a block, or arguments of a destination: the caller's, and one for each variable.
+pub const PARAM_ROOM: usize = OWN_PARAMS + VARIABLES;
 
 /// Cells of a row of destinations: its count, then its entries, as in every row.
 pub const DEST_ROW: usize = 1 + DESTS;
 /// Cells of a row of predecessors or of placed blocks.
 pub const PRED_ROW: usize = 1 + BLOCKS;
-/// Cells of a row of types, parameters, pending variables or arguments.
-pub const PARAM_ROW: usize = 1 + VARIABLES;
+/// Cells of a row of parameters or arguments.
+pub const PARAM_ROW: usize = 1 + PARAM_ROOM;
+/// Cells of a row of pending variables.
+pub const PENDING_ROW: usize = 1 + VARIABLES;
+/// Cells of the row of types.
+pub const TYPE_ROW: usize = 1 + VARIABLES;
 /// Cells of a row of the zero log.
 pub const ZERO_ROW: usize = 1 + ZERO_ROOM;
 
@@ -38,7 +46,7 @@ pub const BLOCK_COUNT: usize = 0;
 /// In `graph`: the row of the declared variables' types.
 pub const TYPES: usize = BLOCK_COUNT + 1;
 /// In `graph`: which blocks have a branch.
-pub const BRANCHES: usize = TYPES + PARAM_ROW;
+pub const BRANCHES: usize = TYPES + TYPE_ROW;
 /// In `graph`: which blocks are sealed.
 pub const SEALED: usize = BRANCHES + BLOCKS;
 /// In `graph`: which blocks' branches were ever declared, also those that were removed again.
@@ -68,10 +76,12 @@ pub const ZERO_BLOCKS: usize = ZERO_CALLS + ZERO_ROW;
 pub const PARAM_ROWS: usize = ZERO_BLOCKS + ZERO_ROW;
 /// Cells of the table of parameters.
 pub const PARAM_CELLS: usize = BLOCKS * PARAM_ROW;
+/// In `form`: how many of each block's parameters are the caller's. They are its first ones.
+pub const OWNS: usize = PARAM_ROWS + PARAM_CELLS;
 /// In `form`: a row of pending variables for each block.
-pub const PENDING_ROWS: usize = PARAM_ROWS + PARAM_CELLS;
+pub const PENDING_ROWS: usize = OWNS + BLOCKS;
 /// In `form`: the last definitions, value plus one, by variable and then by block.
-pub const DEFS: usize = PENDING_ROWS + BLOCKS * PARAM_ROW;
+pub const DEFS: usize = PENDING_ROWS + BLOCKS * PENDING_ROW;
 /// In `form`: a row of arguments for each destination of each block's branch.
 pub const ARG_ROWS: usize = DEFS + VARIABLES * BLOCKS;
 /// Cells of the table of arguments.
@@ -100,7 +110,7 @@ pub const NO_ROOM: u32 = 15;
 pub const NOT_DRAWABLE: u32 = 16;
 
 /// What the library tells of itself, by the number to ask [`limit`] for: in words, and what this package was built for.
-pub const TOLD: [(&str, u32); 12] = [
+pub const TOLD: [(&str, u32); 13] = [
     ("version of its calls", VERSION),
     ("limit of blocks", BLOCKS as u32),
     ("limit of variables", VARIABLES as u32),
@@ -113,6 +123,7 @@ pub const TOLD: [(&str, u32); 12] = [
     ("count of kinds", Kind::ALL.len() as u32),
     ("count of types", Type::ALL.len() as u32),
     ("count of sorts", Sort::ALL.len() as u32),
+    ("limit of a block's parameters of the caller's", OWN_PARAMS as u32),
 ];
 
 #[repr(C)]

@@ -98,7 +98,7 @@ fn resolving_over_any_list() {
 #[test]
 fn a_row_is_a_part_of_the_lent_table() {
     let params = vec![2; raw::PARAM_CELLS];
-    let args = vec![raw::VARIABLES as u32; raw::ARG_CELLS];
+    let args = vec![raw::PARAM_ROOM as u32; raw::ARG_CELLS];
     let row = raw::row(&params, &args, Asked::Params(Block(3)));
     assert_eq!(row.as_ptr_range(), params[3 * raw::PARAM_ROW + 1..][..2].as_ptr_range());
     let row = raw::row(&params, &args, Asked::Args(Branch(63), 7));
@@ -119,7 +119,7 @@ fn a_row_that_is_not_there_is_told_from_an_empty_one() {
     for asked in past {
         assert_eq!(told(&empty, &empty, asked), (6, &[][..]));
     }
-    for count in [raw::VARIABLES as u32 + 1, u32::MAX] {
+    for count in [raw::PARAM_ROOM as u32 + 1, u32::MAX] {
         assert_eq!(told(&[], &[count; raw::ARG_CELLS], Asked::Args(Branch(0), 0)), (6, &[][..]));
     }
 }

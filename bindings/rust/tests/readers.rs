@@ -85,6 +85,33 @@ fn an_unset_float_is_a_quiet_nan() {
     assert!(session.to_string().contains(": F32, zero with bits 0x7fc00000"), "{session}");
 }
 
+/// A loop that carries an index beside a variable: the index stands first, and each way in brings both.
+#[test]
+fn a_loop_that_carries_an_index() {
+    let mut ssa = builder(3);
+    let [start, turn, after] = [0, 1, 2].map(Block);
+    let minute = ssa.append_block_param(turn, Type::I64).unwrap();
+    let first = ssa.make_value(start, Type::I64).unwrap();
+    let reported = set(&mut ssa, FIRST, 0);
+    let enter = ssa.branch_with(start, &[(turn, &[first])]).unwrap();
+    let reading = ssa.use_var(FIRST, turn).unwrap();
+    let next = ssa.make_value(turn, Type::I64).unwrap();
+    let cooled = set(&mut ssa, FIRST, 1);
+    let again = ssa.branch_with(turn, &[(turn, &[next]), (after, &[])]).unwrap();
+    ssa.seal_all_blocks().unwrap();
+    assert_eq!(ssa.use_var(FIRST, after), Ok(cooled));
+    let session = ssa.session();
+    assert!(session.params(turn).unwrap().eq([minute, reading]));
+    assert!(session.caller_params(turn).unwrap().eq([minute]));
+    assert_eq!(session.caller_params(after).unwrap().len(), 0);
+    assert_eq!([minute, reading].map(|value| session.value(value).unwrap().sort), [Sort::CallerParameter, Sort::Parameter]);
+    for (branch, brought) in [(enter, [first, reported]), (again, [next, cooled])] {
+        assert!(session.destinations(branch).unwrap().next().unwrap().args.eq(brought));
+    }
+    let words = session.to_string();
+    assert!(words.contains("takes value 0, value 3\n  value 0: I64, caller's parameter\n"), "{words}");
+}
+
 #[test]
 fn jump_and_branch_are_the_calls_written_out() {
     let (mut short, mut long) = (List::new(), List::new());

@@ -6,7 +6,7 @@ use crate::progress::Progress;
 use crate::rng::Rng;
 use crate::{Call, MAX_CALLS, limits, odd};
 use sangvireb::raw::{self, Asked};
-use sangvireb::{Block, Branch};
+use sangvireb::{Block, Branch, Kind};
 use std::ops::Range;
 use std::os::unix::process::ExitStatusExt;
 use std::process::{Command, ExitCode};
@@ -17,6 +17,8 @@ type Lists = [Vec<u32>; 9];
 /// How many cells more than its need a list has at most.
 pub const SPARE: usize = 64;
 const SIGSEGV: i32 = 11;
+/// Numbers below this are a row's room or near it.
+const SMALL: u32 = raw::PARAM_ROOM as u32 + 6;
 
 struct Field {
     grounds: [Ground; 9],
@@ -93,8 +95,8 @@ pub fn garbage(len: usize, rng: &mut Rng) -> Vec<u32> {
     let (same, small) = (rng.any(), rng.chance(1, 3));
     match rng.below(4) {
         0 => vec![u32::MAX; len],
-        1 => vec![same % 70; len],
-        _ => (0..len).map(|_| if small { rng.below(70) } else { rng.any() }).collect(),
+        1 => vec![same % SMALL; len],
+        _ => (0..len).map(|_| if small { rng.below(SMALL) } else { rng.any() }).collect(),
     }
 }
 
@@ -153,8 +155,14 @@ fn check(before: &Lists, code: u32, after: &Lists) -> Result<(), String> {
 fn check_answers(after: &Lists) -> Result<(), String> {
     let [kinds, _, _, _, codes, numbers, _, _, work] = after;
     for (i, kind) in kinds.iter().enumerate() {
-        let unknown = !(1..=14).contains(kind);
-        let given = matches!(codes[i], 0 | 3..=13) || codes[i] == 20 && [4, 5].contains(kind);
+        let unknown = Kind::from_number(*kind).is_none();
+        let given = match codes[i] {
+            0 | 3..=13 => true,
+            17 => *kind == 15,
+            18 => [15, 16].contains(kind),
+            20 => [4, 5].contains(kind),
+            _ => false,
+        };
         if !given || unknown != (codes[i] == 3) || codes[i] != 0 && numbers[i] != 0 {
             return Err(format!("call {i} of kind {kind} gets code {} and number {}", codes[i], numbers[i]));
         }
@@ -248,7 +256,7 @@ fn row_due(table: &[u32], asked: Asked) -> Option<Range<usize>> {
 fn rows(right: usize, rng: &mut Rng) -> Vec<u32> {
     let mut cells = garbage(length(right, rng), rng);
     if rng.chance(3, 4) {
-        let room = raw::VARIABLES as u32;
+        let room = raw::PARAM_ROOM as u32;
         cells.iter_mut().step_by(raw::PARAM_ROW).for_each(|count| *count = rng.pick(&[0, 1, 2, room - 1, room, room + 1, u32::MAX]));
     }
     cells

@@ -92,6 +92,8 @@ pub fn one_call(
         12 => return seal_all_blocks(graph, form, work, c),
         13 => return connect::has_any_predecessors(graph, c, x),
         14 => return connect::is_sealed(graph, c, x),
+        15 => return declare::own_param(graph, form, c, x, y),
+        16 => return declare::give_arg(graph, form, c, x, y, z),
         _ => return reply::refuse(UNKNOWN, c),
     }
 }

@@ -1,1 +1,2 @@
 pub mod Can
+pub mod Owns

@@ -1,8 +1,17 @@
-// The kinds of call that bring something in: blocks, variables, values, definitions, branches. The checks of docs/RULES.md in its order, then the change.
+// The kinds of call that bring something in: blocks, variables, values, definitions, branches, a caller's parameters and their arguments. The checks of
+// docs/RULES.md in its order, then the change.
+ghost use mathlib.Core.Bool.{not, _||_};
 ghost use mathlib.Core.List.{List};
-ghost use Prim.Native.Nat.{ℕ};
+ghost use mathlib.Core.Path.{_≡_};
+ghost use Prim.Native.Nat.{ℕ, _<_};
+ghost use lib.ListN.{length};
+ghost use Rattle.entity.specs.Limits.{limits};
 ghost use Rattle.entity.specs.Options.{value-of};
-ghost use Rattle.definition.specs.Session.{declare-block, declare-var, make-value, define, define-answer, new-branch};
+ghost use Rattle.definition.specs.Base.{_=?_};
+ghost use Rattle.definition.specs.Form.{Graph, Form};
+ghost use Rattle.definition.specs.Session.{declare-block, declare-var, make-value, define, define-answer, new-branch, own-param, give-arg};
+ghost use Rattle.graph.specs.Seen.{Graph-with, Seen};
+ghost use Rattle.form.specs.Can.{Ex, Has-pending};
 ghost use Rattle.reply.specs.Replies.{Some-state, Answers};
 use entity::Block;
 use entity::Branch;
@@ -141,4 +150,78 @@ pub fn new_branch(graph: &mut [u32], form: &mut [u32], c: Counts, x: u32) -> Rep
     graph::declare_branch(graph, Block(x));
     form::place_block(form, Block(x));
     reply::accept(x, c)
+}
+
+// Has the builder begun with the block? It is sealed, has a predecessor, or a variable waits there: from then on the builder may give it parameters.
+fn is_begun(graph: &[u32], form: &[u32], block: Block) -> bool
+    requires { ⌜ Graph-with (Seen (now graph)) ⌝ }
+    requires { ⌜ Ex (Has-pending (now form) (block .0)) ⌝ }
+    requires { ⌜ block .0 < limits .blocks ⌝ }
+    ensures { λ r. ⌜ ((g : Graph) → (s : Form) → Seen (now (graph .entry)) g → Has-pending (now (form .entry)) (block .0) s
+        → r ≡ (g .sealed (block .0) || not (length (g .preds (block .0)) =? 0) || not (length (s .pending (block .0)) =? 0))) ⌝ }
+{
+    if graph::is_sealed(graph, block) {
+        return true;
+    }
+    if graph::predecessor_count(graph, block) != 0 {
+        return true;
+    }
+    form::pending_count(form, block) != 0
+}
+
+// Kind 15. A caller's parameters stand before the builder's. Such a parameter counts as a made value, but it does not place its block.
+pub fn own_param(graph: &[u32], form: &mut [u32], c: Counts, x: u32, y: u32) -> Reply
+    requires { ⌜ Some-state (now graph) (now form) c ⌝ }
+    ensures { λ r. ⌜ Answers (now (graph .entry)) (now (form .entry)) (now (graph .entry)) (now (form .exit)) c r (λ g s. own-param g s x y) ⌝ }
+{
+    if reply::no_block(graph, x) {
+        return reply::refuse(reply::ABSENT, c);
+    }
+    if Type::COUNT <= y {
+        return reply::refuse(reply::ABSENT, c);
+    }
+    if is_begun(graph, form, Block(x)) {
+        return reply::refuse(reply::BEGUN, c);
+    }
+    if entity::OWN_PARAMS <= form::own_count(form, Block(x)) {
+        return reply::refuse(reply::OWN_FULL, c);
+    }
+    if entity::MADE <= form::made_count(form) {
+        return reply::refuse(reply::FULL, c);
+    }
+    form::count_made(form);
+    let d = form::append_block_param(form, c, Block(x), form::CALLER, y);
+    form::count_own(form, Block(x));
+    reply::accept(c.values, d)
+}
+
+// Kind 16. The caller's arguments feed the caller's parameters of the destination in order, and stand before the builder's: these come once the branch is
+// declared. The value is stored as it is.
+pub fn give_arg(graph: &[u32], form: &mut [u32], c: Counts, x: u32, y: u32, z: u32) -> Reply
+    requires { ⌜ Some-state (now graph) (now form) c ⌝ }
+    ensures { λ r. ⌜ Answers (now (graph .entry)) (now (form .entry)) (now (graph .entry)) (now (form .exit)) c r (λ g s. give-arg g s x y z) ⌝ }
+{
+    if reply::no_branch(graph, x) {
+        return reply::refuse(reply::ABSENT, c);
+    }
+    if c.values <= y {
+        return reply::refuse(reply::ABSENT, c);
+    }
+    if graph::dest_count(graph, Branch(x)) <= z {
+        return reply::refuse(reply::ABSENT, c);
+    }
+    if graph::is_declared(graph, Branch(x)) {
+        return reply::refuse(reply::DECLARED, c);
+    }
+    let dest = graph::dest(graph, Branch(x), z);
+    let n = form::argument_count(form, Branch(x), z);
+    if form::own_count(form, dest) <= n {
+        return reply::refuse(reply::OWN_FULL, c);
+    }
+    let param = form::block_param(form, dest, n);
+    if form::value_type(form, Value(y)) != form::value_type(form, param) {
+        return reply::refuse(reply::OTHER_TYPE, c);
+    }
+    form::append_argument(form, Branch(x), z, Value(y));
+    reply::accept(n, c)
 }

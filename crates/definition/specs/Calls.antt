@@ -56,6 +56,14 @@ seal b = call 11 b 0 0
 abbrev pub seal-all : Call
 seal-all = call 12 0 0 0
 
+-- a caller's parameter on b
+abbrev pub own-param : Block → ℕ → Call
+own-param b type = call 15 b type 0
+
+-- x for the destination of p's branch at place i
+abbrev pub give-arg : Block → Value → ℕ → Call
+give-arg p x i = call 16 p x i
+
 -- n blocks
 abbrev pub blocks : ℕ → List Call
 blocks n = map declare-block (upFrom 0 n)

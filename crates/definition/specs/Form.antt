@@ -18,7 +18,7 @@ pub record Graph : Type 0 where
   pub declared : Block → Bool  -- was this block's branch ever declared?
 
 pub data Sort : Type 0 where
-  made param nought : Sort
+  made param nought caller : Sort  -- by the caller; a builder's parameter; a zero; a caller's parameter
 
 pub record Info : Type 0 where
   pub sort : Sort
@@ -32,6 +32,7 @@ pub record Form : Type 0 where
   pub info : Value → Info  -- what each value is
   pub target : Value → Value  -- its alias target, itself for none
   pub params : Block → List Value
+  pub owns : Block → ℕ  -- how many of the block's parameters are the caller's: they stand first
   pub args : Block → ℕ → List Value  -- the arguments of a branch at each of its destinations
   pub pending : Block → List (Variable × Value)  -- an unsealed block's pending variables, each with its parameter
   pub entry : Variable → Block → Option Value  -- what stands for the variable where the block begins, once asked for
@@ -76,15 +77,16 @@ module _ (g : Graph) where
   abbrev pub with-declared : (Block → Bool) → Graph
   with-declared new = graph call blocks types branch dests preds sealed new
 
-abbrev pub form : ℕ → ℕ → (Value → Info) → (Value → Value) → (Block → List Value) → (Block → ℕ → List Value)
+abbrev pub form : ℕ → ℕ → (Value → Info) → (Value → Value) → (Block → List Value) → (Block → ℕ) → (Block → ℕ → List Value)
     → (Block → List (Variable × Value)) → (Variable → Block → Option Value) → (Variable → Block → Option Value)
     → List (ℕ × Block) → List Block → Form
-form n mk i t ps us ws en ow zs pl = record {
+form n mk i t ps os us ws en ow zs pl = record {
   next = n;
   makes = mk;
   info = i;
   target = t;
   params = ps;
+  owns = os;
   args = us;
   pending = ws;
   entry = en;
@@ -94,37 +96,40 @@ form n mk i t ps us ws en ow zs pl = record {
 }
 
 module _ (s : Form) where
-  open Form s using (next, makes, info, target, params, args, pending, entry, own, zeros, placed)
+  open Form s using (next, makes, info, target, params, owns, args, pending, entry, own, zeros, placed)
 
   abbrev pub with-next : ℕ → Form
-  with-next new = form new makes info target params args pending entry own zeros placed
+  with-next new = form new makes info target params owns args pending entry own zeros placed
 
   abbrev pub with-makes : ℕ → Form
-  with-makes new = form next new info target params args pending entry own zeros placed
+  with-makes new = form next new info target params owns args pending entry own zeros placed
 
   abbrev pub with-info : (Value → Info) → Form
-  with-info new = form next makes new target params args pending entry own zeros placed
+  with-info new = form next makes new target params owns args pending entry own zeros placed
 
   abbrev pub with-target : (Value → Value) → Form
-  with-target new = form next makes info new params args pending entry own zeros placed
+  with-target new = form next makes info new params owns args pending entry own zeros placed
 
   abbrev pub with-params : (Block → List Value) → Form
-  with-params new = form next makes info target new args pending entry own zeros placed
+  with-params new = form next makes info target new owns args pending entry own zeros placed
+
+  abbrev pub with-owns : (Block → ℕ) → Form
+  with-owns new = form next makes info target params new args pending entry own zeros placed
 
   abbrev pub with-args : (Block → ℕ → List Value) → Form
-  with-args new = form next makes info target params new pending entry own zeros placed
+  with-args new = form next makes info target params owns new pending entry own zeros placed
 
   abbrev pub with-pending : (Block → List (Variable × Value)) → Form
-  with-pending new = form next makes info target params args new entry own zeros placed
+  with-pending new = form next makes info target params owns args new entry own zeros placed
 
   abbrev pub with-entry : (Variable → Block → Option Value) → Form
-  with-entry new = form next makes info target params args pending new own zeros placed
+  with-entry new = form next makes info target params owns args pending new own zeros placed
 
   abbrev pub with-own : (Variable → Block → Option Value) → Form
-  with-own new = form next makes info target params args pending entry new zeros placed
+  with-own new = form next makes info target params owns args pending entry new zeros placed
 
   abbrev pub with-zeros : List (ℕ × Block) → Form
-  with-zeros new = form next makes info target params args pending entry own new placed
+  with-zeros new = form next makes info target params owns args pending entry own new placed
 
   abbrev pub with-placed : List Block → Form
-  with-placed new = form next makes info target params args pending entry own zeros new
+  with-placed new = form next makes info target params owns args pending entry own zeros new

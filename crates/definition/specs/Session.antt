@@ -1,4 +1,4 @@
--- The fourteen calls, with their refusals in order, and a session: the calls in turn.
+-- The sixteen calls, with their refusals in order, and a session: the calls in turn.
 -- Assumes nothing.
 use Prim.Native.Nat.{ℕ, zero, suc, _-_}
 use mathlib.Core.Bool.{Bool, true, false, not, _&&_, _||_}
@@ -7,10 +7,10 @@ use mathlib.Core.List.{List, [], _∷_, map}
 use lib.ListN.{length, getD}
 use Rattle.entity.specs.Limits.{limits}
 use Rattle.entity.specs.Types.{type-count}
-use Rattle.definition.specs.Base.{Block, Variable, Value, _=?_, _<?_, _≤?_, if_then_else_, put, _∷ʳ_, has, any, position, upFrom}
-use Rattle.definition.specs.Form.{Graph, Form, made, graph, form, with-call, with-blocks, with-types, with-branch}
-use Rattle.definition.specs.Form.{with-dests, with-preds, with-sealed, with-declared, with-makes}
-use Rattle.definition.specs.Read.{type-of, write, make, place-block, set-pending, read, depth, settle-pending}
+use Rattle.definition.specs.Base.{Block, Variable, Value, _=?_, _<?_, _≤?_, if_then_else_, put, put₂, _∷ʳ_, has, any, position, upFrom}
+use Rattle.definition.specs.Form.{Graph, Form, made, caller, graph, form, with-call, with-blocks, with-types, with-branch}
+use Rattle.definition.specs.Form.{with-dests, with-preds, with-sealed, with-declared, with-makes, with-owns, with-args}
+use Rattle.definition.specs.Read.{type-of, write, make, place-block, set-params, set-pending, read, depth, settle-pending}
 
 pub record Call : Type 0 where
   pub kind : ℕ
@@ -192,6 +192,27 @@ module _ (g : Graph) (s : Form) where
   abbrev pub is-sealed : Block → Reply
   is-sealed b = refuse 6 when no-block b else ok (bit (g .sealed b)) g s
 
+  -- kind 15: a caller's parameter stands before the builder's, so there is none of these yet
+  abbrev pub own-param : Block → ℕ → Reply
+  own-param b ty =
+      refuse 6 when (no-block b || no-type ty) else
+      refuse 17 when (g .sealed b || not (length (g .preds b) =? 0) || not (length (s .pending b) =? 0)) else
+      refuse 18 when limits .own-params ≤? s .owns b else
+      refuse 4 when limits .made ≤? s .makes else
+      (let s′ = make caller ty b (with-makes s (suc (s .makes))) in
+      ok (s .next) g (with-owns (set-params b (s .params b ∷ʳ s .next) s′) (put b (suc (s .owns b)) (s .owns))))
+
+  -- kind 16: an argument for the next caller's parameter of the destination at place i, stored as it is
+  abbrev pub give-arg : Block → Value → ℕ → Reply
+  give-arg p x i =
+      let d = getD (g .dests p) i 0 in
+      let n = length (s .args p i) in
+      refuse 6 when (no-branch p || no-value x || length (g .dests p) ≤? i) else
+      refuse 11 when declared-anywhere g p else
+      refuse 18 when s .owns d ≤? n else
+      refuse 7 when not (s .info x .type =? s .info (getD (s .params d) n 0) .type) else
+      ok n g (with-args s (put₂ p i (s .args p i ∷ʳ x) (s .args)))
+
   -- the reply to a call of this kind, where ds were done before
   abbrev pub reply : List Done → ℕ → ℕ → ℕ → ℕ → Reply
   reply ds x y z kind = getD (
@@ -210,6 +231,8 @@ module _ (g : Graph) (s : Form) where
       ∷ seal-all  -- 12
       ∷ any-preds x  -- 13
       ∷ is-sealed x  -- 14
+      ∷ own-param x y  -- 15
+      ∷ give-arg x y z  -- 16
       ∷ []) kind (no 3)
 
 abbrev pub tick : Graph → Graph
@@ -231,7 +254,7 @@ run t (c ∷ cs) = run (step t c) cs
 abbrev pub empty : State
 empty = record {
   graph = graph 0 0 [] (λ b. false) (λ b. []) (λ b. []) (λ b. false) (λ b. false);
-  form = form 0 0 (λ x. record { sort = made; type = 0; home = 0 }) (λ x. x) (λ b. []) (λ p i. []) (λ b. []) (λ v b. none) (λ v b. none) [] [];
+  form = form 0 0 (λ x. record { sort = made; type = 0; home = 0 }) (λ x. x) (λ b. []) (λ b. 0) (λ p i. []) (λ b. []) (λ v b. none) (λ v b. none) [] [];
   done = [];
 }
 

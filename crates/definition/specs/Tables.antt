@@ -6,7 +6,7 @@ use mathlib.Core.Option.{Option, none, some}
 use mathlib.Core.List.{List, [], _∷_, map}
 use lib.ListN.{length, getD}
 use Rattle.definition.specs.Base.{Block, Value, upFrom}
-use Rattle.definition.specs.Form.{Graph, Form, Sort, made, param, nought, def}
+use Rattle.definition.specs.Form.{Graph, Form, Sort, made, param, nought, caller, def}
 use Rattle.definition.specs.Session.{Done, State, bit}
 
 pub record Tables : Type 0 where
@@ -15,6 +15,7 @@ pub record Tables : Type 0 where
   pub types : List ℕ  -- by variable
   pub values : List (ℕ × ℕ × ℕ × ℕ)  -- sort, type, block, alias target
   pub params : List (List ℕ)  -- by block
+  pub owns : List ℕ  -- by block: how many of these are the caller's
   pub branches : List (List (List (ℕ × List ℕ)))  -- by block: no branch, or one; each destination's block and arguments
   pub preds : List (List ℕ)  -- by block
   pub pending : List (List ℕ)  -- by block
@@ -28,6 +29,7 @@ abbrev pub sort-number : Sort → ℕ
 sort-number made = 0
 sort-number param = 1
 sort-number nought = 2
+sort-number caller = 3
 
 abbrev pub plus-one : Option ℕ → ℕ
 plus-one none = 0
@@ -56,6 +58,7 @@ module _ (g : Graph) (s : Form) where
     types = g .types;
     values = map value-row (upFrom 0 (s .next));
     params = map (s .params) bs;
+    owns = map (s .owns) bs;
     branches = map (λ b. branch-row b (g .branch b)) bs;
     preds = map (g .preds) bs;
     pending = map (λ b. map (λ w. w .0) (s .pending b)) bs;

@@ -1,8 +1,8 @@
 // Every read of a lent cell that printing makes. Each goes through `raw`, which answers 0 past the end, so that no count and no offset can lead astray.
-use crate::say::Numbers;
-use crate::say::three;
 use entity::Described;
 use entity::Type;
+use phrases::say::Numbers;
+use phrases::say::three;
 
 const BLOCKS: usize = entity::BLOCKS as usize;
 
@@ -54,7 +54,7 @@ pub fn zero_count(form: &[u32]) -> usize {
     cell(form, layout::ZERO_CALLS, 0)
 }
 
-// Where row i starts of a table of rows of parameters, pending variables or arguments.
+// Where row i starts of a table of rows of parameters or arguments.
 pub fn param_row(start: usize, i: usize) -> usize {
     if entity::FORM_NEED <= start {
         return 0;
@@ -63,6 +63,14 @@ pub fn param_row(start: usize, i: usize) -> usize {
         return 0;
     }
     start + i * entity::PARAM_ROW
+}
+
+// The pending variables of block i.
+pub fn wait_row(i: usize) -> usize {
+    if BLOCKS <= i {
+        return 0;
+    }
+    layout::PENDING + i * entity::WAIT_ROW
 }
 
 pub fn dest_row(i: usize) -> usize {

@@ -1,7 +1,7 @@
 -- What a host is told: the limits, and each room that it must lend.
 -- Assumes nothing.
 use mathlib.Core.Path.{_≡_}
-use Rattle.entity.specs.Limits.{limits, zero-room, value-room, param-room, pred-room, call-room, result-room, graph-need, form-need, work-need}
+use Rattle.entity.specs.Limits.{limits, zero-room, value-room, wait-room, param-room, pred-room, call-room, result-room, graph-need, form-need, work-need}
 use Rattle.entity.specs.declared.Limits.{Limits}
 use Rattle.entity.specs.declared.Rooms.{Rooms}
 
@@ -11,6 +11,7 @@ pub record In-force (r : Limits) : Type 0 where
   pub variables : r .variables ≡ limits .variables
   pub dests : r .dests ≡ limits .dests
   pub made : r .made ≡ limits .made
+  pub owns : r .owns ≡ limits .own-params
   pub calls : r .calls ≡ limits .calls
 
 -- r is the rooms that specs/Limits.antt works out from them
@@ -18,6 +19,7 @@ pub record Needed (r : Rooms) : Type 0 where
   pub values : r .values ≡ value-room limits
   pub zeros : r .zeros ≡ zero-room limits
   pub params : r .params ≡ param-room limits
+  pub waits : r .waits ≡ wait-room limits
   pub preds : r .preds ≡ pred-room limits
   pub calls : r .calls ≡ call-room limits
   pub results : r .results ≡ result-room limits

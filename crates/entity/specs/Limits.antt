@@ -6,11 +6,12 @@ pub record Limits : Type 0 where
   pub blocks : ℕ
   pub variables : ℕ
   pub dests : ℕ  -- destinations of a branch
-  pub made : ℕ  -- values that calls of kind 3 make
+  pub made : ℕ  -- values that calls of kinds 3 and 15 make
+  pub own-params : ℕ  -- caller's parameters of a block
   pub calls : ℕ  -- calls of a session
 
 abbrev pub limits : Limits
-limits = record { blocks = 64; variables = 64; dests = 8; made = 4096; calls = 16384 }
+limits = record { blocks = 64; variables = 64; dests = 8; made = 4096; own-params = 64; calls = 16384 }
 
 -- a row that holds a list of up to n entries: its count, then its entries
 abbrev pub row-cells : ℕ → ℕ
@@ -25,9 +26,13 @@ module _ (l : Limits) where
   abbrev pub value-room : ℕ
   value-room = l .made + 2 * zero-room
 
-  -- parameters of a block, arguments of a destination, variables pending in a block
+  -- variables pending in a block
+  abbrev pub wait-room : ℕ
+  wait-room = l .variables
+
+  -- parameters of a block, arguments of a destination: the builder's, one for a variable, and the caller's
   abbrev pub param-room : ℕ
-  param-room = l .variables
+  param-room = l .variables + l .own-params
 
   -- predecessors of a block, blocks placed
   abbrev pub pred-room : ℕ
@@ -48,11 +53,11 @@ module _ (l : Limits) where
       + l .blocks * row-cells (l .dests) + l .blocks * row-cells pred-room
 
   -- the form's cells: counts of values and of made ones; target and description of each value; blocks placed; the zeros' calls and blocks;
-  -- parameters; pending variables; last definitions; arguments
+  -- parameters; how many of them are the caller's; pending variables; last definitions; arguments
   abbrev pub form-need : ℕ
   form-need =
       2 + 2 * value-room + row-cells pred-room + 2 * row-cells zero-room
-      + l .blocks * row-cells param-room + l .blocks * row-cells param-room
+      + l .blocks * row-cells param-room + l .blocks + l .blocks * row-cells wait-room
       + l .variables * l .blocks + l .blocks * (l .dests * row-cells param-room)
 
   -- the work cells: two for each scheduled call, one for each result

@@ -163,6 +163,8 @@ pub const DESTS: u32 = 8;
 
 pub const MADE: u32 = 4096;
 
+pub const OWN_PARAMS: u32 = 64;
+
 pub const CALLS: u32 = 16384;
 
 // The rooms that follow, as specs/Limits.antt works them out and says why.
@@ -170,7 +172,9 @@ pub const ZERO_ROOM: usize = BLOCKS as usize * VARIABLES as usize;
 
 pub const VALUE_ROOM: usize = MADE as usize + 2 * ZERO_ROOM;
 
-pub const PARAM_ROOM: usize = VARIABLES as usize;
+pub const WAIT_ROOM: usize = VARIABLES as usize;
+
+pub const PARAM_ROOM: usize = VARIABLES as usize + OWN_PARAMS as usize;
 
 pub const PRED_ROOM: usize = BLOCKS as usize;
 
@@ -184,6 +188,8 @@ pub const TYPE_ROW: usize = 1 + VARIABLES as usize;
 pub const DEST_ROW: usize = 1 + DESTS as usize;
 
 pub const ZERO_ROW: usize = 1 + ZERO_ROOM;
+
+pub const WAIT_ROW: usize = 1 + WAIT_ROOM;
 
 pub const PARAM_ROW: usize = 1 + PARAM_ROOM;
 
@@ -203,7 +209,8 @@ pub const FORM_NEED: usize = 2
     + PRED_ROW
     + 2 * ZERO_ROW
     + BLOCKS as usize * PARAM_ROW
-    + BLOCKS as usize * PARAM_ROW
+    + BLOCKS as usize
+    + BLOCKS as usize * WAIT_ROW
     + VARIABLES as usize * BLOCKS as usize
     + BLOCKS as usize * (DESTS as usize * PARAM_ROW);
 
@@ -214,6 +221,7 @@ pub struct Limits {
     pub variables: u32,
     pub dests: u32,
     pub made: u32,
+    pub owns: u32,
     pub calls: u32,
 }
 
@@ -227,6 +235,7 @@ impl Limits {
             variables: VARIABLES,
             dests: DESTS,
             made: MADE,
+            owns: OWN_PARAMS,
             calls: CALLS,
         }
     }
@@ -236,6 +245,7 @@ pub struct Rooms {
     pub values: usize,
     pub zeros: usize,
     pub params: usize,
+    pub waits: usize,
     pub preds: usize,
     pub calls: usize,
     pub results: usize,
@@ -253,6 +263,7 @@ impl Rooms {
             values: VALUE_ROOM,
             zeros: ZERO_ROOM,
             params: PARAM_ROOM,
+            waits: WAIT_ROOM,
             preds: PRED_ROOM,
             calls: CALL_ROOM,
             results: RESULT_ROOM,

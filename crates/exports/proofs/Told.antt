@@ -7,7 +7,7 @@ use mathlib.Core.Bool.{Bool, true, false, not}
 use mathlib.Core.List.{List, [], _∷_, map}
 use lib.ListN.{length, List·getD-eq-default}
 use Rattle.definition.specs.Base.{_=?_, upFrom}
-use Rattle.definition.specs.Form.{Graph, Form, Sort, made, param, nought}
+use Rattle.definition.specs.Form.{Graph, Form, Sort, made, param, nought, caller}
 use Rattle.definition.specs.Session.{Done, Reply, no, ok, reply, empty}
 use Rattle.definition.specs.Tables.{sort-number}
 use Rattle.exports.specs.Told.{kind-count, sort-count, all-told, told}
@@ -27,7 +27,7 @@ pub kinds-known : map (λ k. unknown (reply (empty .graph) (empty .form) [] 0 0 
 kinds-known = refl
 
 abbrev sorts : List Sort
-sorts = made ∷ param ∷ nought ∷ []
+sorts = made ∷ param ∷ nought ∷ caller ∷ []
 
 pub sorts-counted : map sort-number sorts ≡ upFrom 0 sort-count
 sorts-counted = refl

@@ -8,15 +8,15 @@ use Rattle.entity.specs.Types.{type-count}
 
 -- rises when an exported call takes, answers or leaves something else, or has another name, or when what it leaves stands for something else
 abbrev pub version : ℕ
-version = 3
+version = 4
 
 -- kinds of call are numbered from 1 to this
 abbrev pub kind-count : ℕ
-kind-count = 14
+kind-count = 16
 
 -- sorts of value are numbered from 0
 abbrev pub sort-count : ℕ
-sort-count = 3
+sort-count = 4
 
 abbrev pub all-told : List ℕ
 all-told =
@@ -32,6 +32,7 @@ all-told =
     ∷ kind-count  -- 9
     ∷ type-count  -- 10
     ∷ sort-count  -- 11
+    ∷ limits .own-params  -- 12
     ∷ []
 
 -- what stands at this place, 0 for any other

@@ -17,15 +17,15 @@ use reader::Span;
 
 // Raised when an exported call takes, answers or leaves something else, or what it leaves stands for something else: a host built for another version
 // refuses to start.
-pub const VERSION: u32 = 3;
+pub const VERSION: u32 = 4;
 
 // Kinds of call are numbered from 1 to this.
-pub const KINDS: u32 = 14;
+pub const KINDS: u32 = 16;
 
 // Sorts of value are numbered from 0.
-pub const SORTS: u32 = 3;
+pub const SORTS: u32 = 4;
 
-const TOLD: [u32; 12] = [
+const TOLD: [u32; 13] = [
     VERSION,
     entity::BLOCKS,
     entity::VARIABLES,
@@ -38,6 +38,7 @@ const TOLD: [u32; 12] = [
     KINDS,
     Type::COUNT,
     SORTS,
+    entity::OWN_PARAMS,
 ];
 
 // Code and number of a resolved alias, as C sees them.

@@ -6,7 +6,7 @@ use mathlib.Core.Bool.{false}
 use mathlib.Core.Option.{none}
 use mathlib.Core.List.{List, [], _∷_, _++_}
 use lib.ListN.{length, getD}
-use Rattle.entity.specs.Limits.{limits, value-room, zero-room, param-room, pred-room}
+use Rattle.entity.specs.Limits.{limits, value-room, zero-room, wait-room, param-room, pred-room}
 use Rattle.definition.specs.Base.{has}
 use Rattle.definition.specs.Form.{Form}
 use Rattle.definition.specs.Read.{write, mark-one, set-pending}
@@ -53,6 +53,11 @@ pub record Has-params (lent : List ℕ) (b : ℕ) (s : Form) : Type 0 where
   pub known : b < limits .blocks
   pub few : length (s .params b) ≤ param-room limits
 
+-- there is a parameter at place i
+pub record Has-param (lent : List ℕ) (b i : ℕ) (s : Form) : Type 0 where
+  pub params : Has-params lent b s
+  pub there : i < length (s .params b)
+
 -- x is the first of the last n parameters of b: those before it are settled, and it is the next to be
 pub record Next-param (lent : List ℕ) (b n x : ℕ) (s : Form) : Type 0 where
   pub params : Has-params lent b s
@@ -60,6 +65,23 @@ pub record Next-param (lent : List ℕ) (b n x : ℕ) (s : Form) : Type 0 where
   pub after : List ℕ
   pub split : s .params b ≡ before ++ x ∷ after
   pub count : n ≡ suc (length after)
+
+-- b's count of caller's parameters can be read
+pub record Has-owns (lent : List ℕ) (b : ℕ) (s : Form) : Type 0 where
+  pub cells : Cells lent s
+  pub known : b < limits .blocks
+
+-- the caller may give b one more
+pub record Can-own (lent : List ℕ) (b : ℕ) (s : Form) : Type 0 where
+  pub owns : Has-owns lent b s
+  pub room : s .owns b < limits .own-params
+
+-- i is a place for a destination of the branch of p, whose arguments can be counted
+pub record Has-args (lent : List ℕ) (p i : ℕ) (s : Form) : Type 0 where
+  pub cells : Cells lent s
+  pub branch : p < limits .blocks
+  pub place : i < limits .dests
+  pub few : length (s .args p i) ≤ param-room limits
 
 -- the branch of p has room for an argument at its destination i
 pub record Can-feed (lent : List ℕ) (p i : ℕ) (s : Form) : Type 0 where
@@ -83,12 +105,12 @@ pub record Recorded (old new : List ℕ) (v b x : ℕ) : Type 0 where
 pub record Can-wait (lent : List ℕ) (b : ℕ) (s : Form) : Type 0 where
   pub cells : Cells lent s
   pub known : b < limits .blocks
-  pub row : length (s .pending b) < param-room limits
+  pub row : length (s .pending b) < wait-room limits
 
 pub record Has-pending (lent : List ℕ) (b : ℕ) (s : Form) : Type 0 where
   pub cells : Cells lent s
   pub known : b < limits .blocks
-  pub few : length (s .pending b) ≤ param-room limits
+  pub few : length (s .pending b) ≤ wait-room limits
 
 -- the first n entries of the list are b's pending variables, in order
 pub record Lists (list : List ℕ) (b n : ℕ) (s : Form) : Type 0 where

@@ -1,18 +1,19 @@
 // The form in lent cells: every read and every change of it. Nothing above this crate mentions its cells.
 ghost use mathlib.Core.Path.{_≡_};
 ghost use Prim.Native.Nat.{ℕ, suc, _<_, _≤_};
-ghost use lib.ListN.{length};
+ghost use lib.ListN.{length, getD};
 ghost use Rattle.entity.specs.Described.{Fits, type-room};
-ghost use Rattle.entity.specs.Limits.{limits, value-room, param-room};
+ghost use Rattle.entity.specs.Limits.{limits, value-room, wait-room};
 ghost use Rattle.entity.specs.Options.{value-of};
 ghost use Rattle.entity.specs.Types.{type-count};
 ghost use Rattle.definition.specs.Base.{put, put₂, _∷ʳ_, has, without};
-ghost use Rattle.definition.specs.Form.{Form, Sort, param, def, with-makes, with-target, with-args};
+ghost use Rattle.definition.specs.Form.{Form, Sort, def, with-makes, with-target, with-owns, with-args};
 ghost use Rattle.definition.specs.Read.{make as made-of, set-params, wait, log-zero, place-block};
 ghost use Rattle.definition.specs.Tables.{sort-number};
 ghost use Rattle.layout.specs.Counts.{more};
 ghost use Rattle.layout.specs.Layout.{Shows};
-ghost use Rattle.form.specs.Can.{Cells, Ex, Can-make, Can-count, Has-value, Can-append, Has-params, Next-param, Can-feed};
+ghost use Rattle.form.specs.Can.{Cells, Ex, Can-make, Can-count, Has-value, Can-append, Has-params, Has-param, Next-param};
+ghost use Rattle.form.specs.Can.{Has-owns, Can-own, Has-args, Can-feed};
 ghost use Rattle.form.specs.Can.{Has-def, Recorded, Can-wait, Has-pending, Lists, Taken, Can-log, Has-placed, Can-place};
 use entity::Block;
 use entity::Branch;
@@ -21,11 +22,13 @@ use entity::OptionValue;
 use entity::PARAM_ROW;
 use entity::Value;
 use entity::Variable;
+use entity::WAIT_ROW;
 use layout::ARGS;
 use layout::Counts;
 use layout::DEFS;
 use layout::DESCRIBED;
 use layout::MADE_COUNT;
+use layout::OWNS;
 use layout::PARAMS;
 use layout::PENDING;
 use layout::PLACED;
@@ -34,12 +37,14 @@ use layout::VALUE_COUNT;
 use layout::ZERO_BLOCKS;
 use layout::ZERO_CALLS;
 
-// The sorts of values: made by the caller, a parameter of a block, a zero where nothing was defined.
+// The sorts of values: made by the caller, a parameter that the builder gave a block, a zero where nothing was defined, a parameter of the caller's.
 pub const MADE: u32 = 0;
 
 pub const PARAM: u32 = 1;
 
 pub const ZERO: u32 = 2;
+
+pub const CALLER: u32 = 3;
 
 // The next value. It is its own alias target until it becomes another name.
 pub fn make(form: &mut [u32], c: Counts, sort: u32, ty: u32, block: Block) -> Counts
@@ -92,16 +97,17 @@ pub fn zero_count(form: &[u32]) -> u32
     form[ZERO_CALLS]
 }
 
-// The next value, as the block's last parameter.
-pub fn append_block_param(form: &mut [u32], c: Counts, block: Block, ty: u32) -> Counts
+// The next value, as the block's last parameter: the builder's or the caller's, by its sort.
+pub fn append_block_param(form: &mut [u32], c: Counts, block: Block, sort: u32, ty: u32) -> Counts
     requires { ⌜ Ex (Can-append (now form) c (block .0)) ⌝ }
     requires { ⌜ ty < type-room ⌝ }
-    ensures { λ r. ⌜ (r ≡ more c) × ((s : Form) → Can-append (now (form .entry)) c (block .0) s
-        → Shows (now (form .exit)) (more c) (set-params (block .0) (s .params (block .0) ∷ʳ s .next) (made-of param ty (block .0) s))) ⌝ }
+    requires { ⌜ ((k : Sort) × (sort ≡ sort-number k)) ⌝ }
+    ensures { λ r. ⌜ (r ≡ more c) × ((s : Form) → Can-append (now (form .entry)) c (block .0) s → (k : Sort) → sort ≡ sort-number k
+        → Shows (now (form .exit)) (more c) (set-params (block .0) (s .params (block .0) ∷ʳ s .next) (made-of k ty (block .0) s))) ⌝ }
 {
     let b = block.0 as usize;
     let n = c.values;
-    let d = make(form, c, PARAM, ty, block);
+    let d = make(form, c, sort, ty, block);
     rows::push(form, PARAMS + b * PARAM_ROW, n);
     d
 }
@@ -114,6 +120,35 @@ pub fn remove_block_param(form: &mut [u32], block: Block, val: Value)
 {
     let b = block.0 as usize;
     rows::remove(form, PARAMS + b * PARAM_ROW, val.0);
+}
+
+// The block's parameter at a place.
+pub fn block_param(form: &[u32], block: Block, place: u32) -> Value
+    requires { ⌜ Ex (Has-param (now form) (block .0) place) ⌝ }
+    ensures { λ r. ⌜ ((s : Form) → Has-param (now (form .entry)) (block .0) place s → r .0 ≡ getD (s .params (block .0)) place 0) ⌝ }
+{
+    let b = block.0 as usize;
+    let k = place as usize;
+    Value(form[PARAMS + b * PARAM_ROW + 1 + k])
+}
+
+// How many of the block's parameters are the caller's: these stand first.
+pub fn own_count(form: &[u32], block: Block) -> u32
+    requires { ⌜ Ex (Has-owns (now form) (block .0)) ⌝ }
+    ensures { λ r. ⌜ ((s : Form) → Has-owns (now (form .entry)) (block .0) s → r ≡ s .owns (block .0)) ⌝ }
+{
+    let b = block.0 as usize;
+    form[OWNS + b]
+}
+
+// One more of them, of which a block may have only so many.
+pub fn count_own(form: &mut [u32], block: Block)
+    requires { ⌜ Ex (Can-own (now form) (block .0)) ⌝ }
+    ensures { λ r. ⌜ ((s : Form) → Can-own (now (form .entry)) (block .0) s
+        → Cells (now (form .exit)) (with-owns s (put (block .0) (suc (s .owns (block .0))) (s .owns)))) ⌝ }
+{
+    let b = block.0 as usize;
+    form[OWNS + b] = form[OWNS + b] + 1;
 }
 
 // The value becomes another name.
@@ -158,29 +193,29 @@ pub fn push_pending(form: &mut [u32], var: Variable, block: Block)
         → Cells (now (form .exit)) (wait (var .0) (block .0) x s)) ⌝ }
 {
     let b = block.0 as usize;
-    rows::push(form, PENDING + b * PARAM_ROW, var.0);
+    rows::push(form, PENDING + b * WAIT_ROW, var.0);
 }
 
 // How many variables are pending in the block.
 pub fn pending_count(form: &[u32], block: Block) -> u32
     requires { ⌜ Ex (Has-pending (now form) (block .0)) ⌝ }
-    ensures { λ r. ⌜ (r ≤ param-room limits) × ((s : Form) → Has-pending (now (form .entry)) (block .0) s
+    ensures { λ r. ⌜ (r ≤ wait-room limits) × ((s : Form) → Has-pending (now (form .entry)) (block .0) s
         → r ≡ length (s .pending (block .0))) ⌝ }
 {
     let b = block.0 as usize;
-    form[PENDING + b * PARAM_ROW]
+    form[PENDING + b * WAIT_ROW]
 }
 
 // Copies the block's pending variables to the front of the list.
 fn list_pending(form: &[u32], block: Block, list: &mut [u32]) -> u32
     requires { ⌜ Ex (Has-pending (now form) (block .0)) ⌝ }
-    requires { ⌜ param-room limits ≤ length (now list) ⌝ }
-    ensures { λ r. ⌜ (r ≤ param-room limits) × ((s : Form) → Has-pending (now (form .entry)) (block .0) s
+    requires { ⌜ wait-room limits ≤ length (now list) ⌝ }
+    ensures { λ r. ⌜ (r ≤ wait-room limits) × ((s : Form) → Has-pending (now (form .entry)) (block .0) s
         → Lists (now (list .exit)) (block .0) r s) ⌝ }
 {
     let n = pending_count(form, block);
     let b = block.0 as usize;
-    let at = PENDING + b * PARAM_ROW;
+    let at = PENDING + b * WAIT_ROW;
     let k = n as usize;
     let mut i: usize = 0;
     while i < k {
@@ -193,13 +228,13 @@ fn list_pending(form: &[u32], block: Block, list: &mut [u32]) -> u32
 // Moves the block's pending variables to the front of the list: settling them may make others pend, in other blocks.
 pub fn take_pending(form: &mut [u32], block: Block, list: &mut [u32]) -> u32
     requires { ⌜ Ex (Has-pending (now form) (block .0)) ⌝ }
-    requires { ⌜ param-room limits ≤ length (now list) ⌝ }
-    ensures { λ r. ⌜ (r ≤ param-room limits)
+    requires { ⌜ wait-room limits ≤ length (now list) ⌝ }
+    ensures { λ r. ⌜ (r ≤ wait-room limits)
         × ((s : Form) → Has-pending (now (form .entry)) (block .0) s → Taken (now (form .exit)) (now (list .exit)) (block .0) r s) ⌝ }
 {
     let n = list_pending(form, block, list);
     let b = block.0 as usize;
-    rows::clear(form, PENDING + b * PARAM_ROW);
+    rows::clear(form, PENDING + b * WAIT_ROW);
     n
 }
 
@@ -249,6 +284,16 @@ pub fn place_block(form: &mut [u32], block: Block)
         return;
     }
     rows::push(form, PLACED, block.0);
+}
+
+// How many arguments the branch has at one of its destinations.
+pub fn argument_count(form: &[u32], branch: Branch, place: u32) -> u32
+    requires { ⌜ Ex (Has-args (now form) (branch .0) place) ⌝ }
+    ensures { λ r. ⌜ ((s : Form) → Has-args (now (form .entry)) (branch .0) place s → r ≡ length (s .args (branch .0) place)) ⌝ }
+{
+    let p = branch.0 as usize;
+    let i = place as usize;
+    form[ARGS + (p * entity::DESTS as usize + i) * PARAM_ROW]
 }
 
 // The value is the next argument of the branch at one of its destinations.

@@ -14,7 +14,7 @@ use Rattle.entity.specs.Limits.{limits, value-room, row-cells}
 use Rattle.entity.specs.Types.{type-count}
 use Rattle.entity.specs.Described.{type-room, sort-room}
 use Rattle.entity.proofs.Packing.{packed-type, packed-sort, packed-block}
-use Rattle.definition.specs.Form.{Graph, Form, Info, Sort, made, param, nought, def}
+use Rattle.definition.specs.Form.{Graph, Form, Info, Sort, made, param, nought, caller, def}
 use Rattle.definition.specs.Session.{Call, session, bit}
 use Rattle.meaning.specs.Rooms.{Rooms}
 use Rattle.meaning.specs.Stored.{Stored}
@@ -22,7 +22,7 @@ use Rattle.meaning.proofs.Rooms.{rooms}
 use Rattle.meaning.proofs.Stored.{stored}
 use Rattle.layout.specs.Cells.{Table, blank, cell, rows, upto}
 use Rattle.definition.specs.Tables.{sort-number, plus-one}
-use Rattle.layout.specs.Layout.{described, firsts, seconds, dest-row, pred-row, zero-row, param-row, graph-sizes, graph-tables, form-sizes, form-tables, render-graph, render-form}
+use Rattle.layout.specs.Layout.{described, firsts, seconds, dest-row, pred-row, zero-row, param-row, wait-row, graph-sizes, graph-tables, form-sizes, form-tables, render-graph, render-form}
 use Rattle.layout.specs.Same.{Same-graph, Same-form}
 use Rattle.layout.proofs.Cells.{render-same}
 use Rattle.layout.proofs.Grids.{pair-at, grid-at}
@@ -40,12 +40,19 @@ sort-same : (a b : Sort) → sort-number a ≡ sort-number b → a ≡ b
 sort-same made made e = refl
 sort-same made param e = absurd (omega arith)
 sort-same made nought e = absurd (omega arith)
+sort-same made caller e = absurd (omega arith)
 sort-same param made e = absurd (omega arith)
 sort-same param param e = refl
 sort-same param nought e = absurd (omega arith)
+sort-same param caller e = absurd (omega arith)
 sort-same nought made e = absurd (omega arith)
 sort-same nought param e = absurd (omega arith)
 sort-same nought nought e = refl
+sort-same nought caller e = absurd (omega arith)
+sort-same caller made e = absurd (omega arith)
+sort-same caller param e = absurd (omega arith)
+sort-same caller nought e = absurd (omega arith)
+sort-same caller caller e = refl
 
 option-same : (a b : Option ℕ) → plus-one a ≡ plus-one b → a ≡ b
 option-same none none e = refl
@@ -64,10 +71,11 @@ pairs-same (x ∷ xs) (y ∷ ys) e f =
     let p : x ≡ y = ap {B = ℕ × ℕ} (λ (k : ℕ). (k, x .1)) a ∙ ap {B = ℕ × ℕ} (λ (k : ℕ). (y .0, k)) b in
     rw (r, p)
 
-sort-small : (k : Sort) → sort-number k < sort-room
+pub sort-small : (k : Sort) → sort-number k < sort-room
 sort-small made = omega arith
 sort-small param = omega arith
 sort-small nought = omega arith
+sort-small caller = omega arith
 
 info-same : (a b : Info) → a .sort ≡ b .sort → a .type ≡ b .type → a .home ≡ b .home → a ≡ b
 info-same a b e f h =
@@ -134,14 +142,15 @@ module _ (g g′ : Graph) (s s′ : Form) (R : Rooms g s) (R′ : Rooms g′ s�
             (cell-same zero-row (firsts (s .zeros)) (firsts (s′ .zeros)) (omega (arith, R .zeros, length-map (s .zeros) first)) (omega (arith, R′ .zeros, length-map (s′ .zeros) first)) (at 5))
             (cell-same zero-row (seconds (s .zeros)) (seconds (s′ .zeros)) (omega (arith, R .zeros, length-map (s .zeros) second)) (omega (arith, R′ .zeros, length-map (s′ .zeros) second)) (at 6));
         params = λ b lt. rows-same (limits .blocks) param-row (s .params) (s′ .params) b lt (omega (arith, R .params b)) (omega (arith, R′ .params b)) (at 7);
-        pending = λ b lt. rows-same (limits .blocks) param-row (λ c. firsts (s .pending c)) (λ c. firsts (s′ .pending c)) b lt
-            (omega (arith, R .waits b, length-map (s .pending b) first)) (omega (arith, R′ .waits b, length-map (s′ .pending b) first)) (at 8);
+        owns = at 8;
+        pending = λ b lt. rows-same (limits .blocks) wait-row (λ c. firsts (s .pending c)) (λ c. firsts (s′ .pending c)) b lt
+            (omega (arith, R .waits b, length-map (s .pending b) first)) (omega (arith, R′ .waits b, length-map (s′ .pending b) first)) (at 9);
         defs = λ v b lv lb. option-same (def s v b) (def s′ v b)
-            (sym (grid-at (limits .blocks) (λ v b. plus-one (def s v b)) v b lb) ∙ at 9 (v * limits .blocks + b) (digits-lt lv lb) ∙ grid-at (limits .blocks) (λ v b. plus-one (def s′ v b)) v b lb);
+            (sym (grid-at (limits .blocks) (λ v b. plus-one (def s v b)) v b lb) ∙ at 10 (v * limits .blocks + b) (digits-lt lv lb) ∙ grid-at (limits .blocks) (λ v b. plus-one (def s′ v b)) v b lb);
         args = λ p i lp li.
             sym (pair-at (limits .dests) (s .args) p i li)
             ∙ rows-same (limits .blocks * limits .dests) param-row (arg-rows s) (arg-rows s′) (p * limits .dests + i) (digits-lt lp li)
-            (omega (arith, R .args ((p * limits .dests + i) / limits .dests) ((p * limits .dests + i) % limits .dests))) (omega (arith, R′ .args ((p * limits .dests + i) / limits .dests) ((p * limits .dests + i) % limits .dests))) (at 10)
+            (omega (arith, R .args ((p * limits .dests + i) / limits .dests) ((p * limits .dests + i) % limits .dests))) (omega (arith, R′ .args ((p * limits .dests + i) / limits .dests) ((p * limits .dests + i) % limits .dests))) (at 11)
             ∙ pair-at (limits .dests) (s′ .args) p i li;
       }
     where

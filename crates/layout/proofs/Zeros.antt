@@ -7,7 +7,7 @@ use native.Mathlib.Omega.{arith}
 use lib.ListN.{length, getD}
 use Rattle.definition.specs.Session.{empty}
 use Rattle.layout.specs.Cells.{Table, blank, sum, base, Holds, cell, upto}
-use Rattle.layout.specs.Layout.{pred-row, dest-row, param-row, graph-sizes, graph-tables, form-sizes, form-tables, work-sizes}
+use Rattle.layout.specs.Layout.{pred-row, dest-row, param-row, wait-row, graph-sizes, graph-tables, form-sizes, form-tables, work-sizes}
 use Rattle.layout.proofs.Cells.{within}
 use Rattle.layout.proofs.Values.{upto-out}
 
@@ -45,7 +45,7 @@ module _ (l : List ℕ) where
   zeros-form =
       zeros-hold form-sizes (form-tables (empty .form))
       (nothing & nothing & no-value _ & no-value _ & no-entry & no-entry & no-entry
-      & no-row param-row & no-row param-row & nothing & no-row param-row & end)
+      & no-row param-row & nothing & no-row wait-row & nothing & no-row param-row & end)
 
   pub zeros-work : sum work-sizes ≤ length l → ((i : ℕ) → i < sum work-sizes → getD l i 0 ≡ 0) → Holds work-sizes l []
   zeros-work = zeros-hold work-sizes [] end

@@ -4,7 +4,8 @@ use Prim.Native.Nat.{ℕ, suc, _+_, _*_, _/_, _%_, _≤_, _<_}
 use mathlib.Core.Path.{_≡_, refl}
 use mathlib.Core.List.{List, [], _∷_, map, reverse}
 use lib.ListN.{length, getD}
-use Rattle.entity.specs.Limits.{limits, row-cells, zero-room, value-room, param-room, pred-room, call-room, result-room, graph-need, form-need, work-need}
+use Rattle.entity.specs.Limits.{limits, row-cells, zero-room, value-room, wait-room, param-room, pred-room, call-room, result-room}
+use Rattle.entity.specs.Limits.{graph-need, form-need, work-need}
 use Rattle.entity.specs.Described.{packed}
 use Rattle.definition.specs.Form.{Graph, Form, Info, def}
 use Rattle.definition.specs.Session.{bit}
@@ -19,7 +20,7 @@ firsts = map (λ w. w .0)
 abbrev pub seconds : List (ℕ × ℕ) → List ℕ
 seconds = map (λ w. w .1)
 
--- cells of a row: types; destinations; predecessors, also blocks placed; zeros; parameters, also arguments and what is pending
+-- cells of a row: types; destinations; predecessors, also blocks placed; zeros; parameters, also arguments; what is pending
 abbrev pub type-row : ℕ
 type-row = row-cells (limits .variables)
 
@@ -34,6 +35,9 @@ zero-row = row-cells (zero-room limits)
 
 abbrev pub param-row : ℕ
 param-row = row-cells (param-room limits)
+
+abbrev pub wait-row : ℕ
+wait-row = row-cells (wait-room limits)
 
 abbrev pub graph-sizes : List ℕ
 graph-sizes = 1 ∷ type-row ∷ limits .blocks ∷ limits .blocks ∷ limits .blocks ∷ limits .blocks * dest-row ∷ limits .blocks * pred-row ∷ []
@@ -56,7 +60,7 @@ described i = packed (i .type) (sort-number (i .sort)) 0 (i .home)
 abbrev pub form-sizes : List ℕ
 form-sizes =
     1 ∷ 1 ∷ value-room limits ∷ value-room limits ∷ pred-row ∷ zero-row ∷ zero-row
-    ∷ limits .blocks * param-row ∷ limits .blocks * param-row
+    ∷ limits .blocks * param-row ∷ limits .blocks ∷ limits .blocks * wait-row
     ∷ limits .variables * limits .blocks ∷ limits .blocks * (limits .dests * param-row) ∷ []
 
 abbrev pub form-tables : Form → List Table
@@ -69,9 +73,10 @@ form-tables s =
     ∷ cell (firsts (s .zeros))  -- 5: the calls
     ∷ cell (seconds (s .zeros))  -- 6: the blocks
     ∷ rows param-row (s .params)  -- 7
-    ∷ rows param-row (λ b. firsts (s .pending b))  -- 8: the variables
-    ∷ grid (limits .blocks) (λ v b. plus-one (def s v b))  -- 9
-    ∷ rows param-row (λ r. s .args (r / limits .dests) (r % limits .dests))  -- 10
+    ∷ s .owns  -- 8
+    ∷ rows wait-row (λ b. firsts (s .pending b))  -- 9: the variables
+    ∷ grid (limits .blocks) (λ v b. plus-one (def s v b))  -- 10
+    ∷ rows param-row (λ r. s .args (r / limits .dests) (r % limits .dests))  -- 11
     ∷ []
 
 -- A scheduled call in two cells: 0 and the block to read at; or the parameter plus one and its block.

@@ -6,24 +6,24 @@ use mathlib.Core.List.{List, [], _∷_, map}
 use lib.ListN.{length}
 use Rattle.definition.specs.Base.{upFrom}
 use Rattle.layout.specs.Cells.{base}
-use Rattle.layout.specs.Layout.{type-row, dest-row, pred-row, zero-row, param-row, graph-sizes, form-sizes, work-sizes}
+use Rattle.layout.specs.Layout.{type-row, dest-row, pred-row, zero-row, param-row, wait-row, graph-sizes, form-sizes, work-sizes}
 
 -- where each table starts, and last where all end: the need
 abbrev pub starts : List ℕ → List ℕ
 starts sizes = map (base sizes) (upFrom 0 (suc (length sizes)))
 
--- cells of a row of types, destinations, predecessors, zeros, parameters
-widths : type-row ∷ dest-row ∷ pred-row ∷ zero-row ∷ param-row ∷ [] ≡ 65 ∷ 9 ∷ 65 ∷ 4097 ∷ 65 ∷ []
+-- cells of a row of types, destinations, predecessors, zeros, parameters, pending variables
+widths : type-row ∷ dest-row ∷ pred-row ∷ zero-row ∷ param-row ∷ wait-row ∷ [] ≡ 65 ∷ 9 ∷ 65 ∷ 4097 ∷ 129 ∷ 65 ∷ []
 widths = refl
 
 -- blocks, types, branch marks, sealed marks, declared marks, destinations, predecessors
 graph-starts : starts graph-sizes ≡ 0 ∷ 1 ∷ 66 ∷ 130 ∷ 194 ∷ 258 ∷ 834 ∷ 4994 ∷ []
 graph-starts = refl
 
--- values, made values, target, description, placed, zero calls, zero blocks, parameters, pending variables,
+-- values, made values, target, description, placed, zero calls, zero blocks, parameters, caller's parameters, pending variables,
 -- last definitions, arguments
 form-starts : starts form-sizes
-    ≡ 0 ∷ 1 ∷ 2 ∷ 12290 ∷ 24578 ∷ 24643 ∷ 28740 ∷ 32837 ∷ 36997 ∷ 41157 ∷ 45253 ∷ 78533 ∷ []
+    ≡ 0 ∷ 1 ∷ 2 ∷ 12290 ∷ 24578 ∷ 24643 ∷ 28740 ∷ 32837 ∷ 41093 ∷ 41157 ∷ 45317 ∷ 49413 ∷ 115461 ∷ []
 form-starts = refl
 
 -- scheduled calls' values, their blocks, results

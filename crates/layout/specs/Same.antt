@@ -23,6 +23,7 @@ pub record Same-form (s s′ : Form) : Type 0 where
   pub placed : s .placed ≡ s′ .placed
   pub zeros : s .zeros ≡ s′ .zeros
   pub params : (b : ℕ) → b < limits .blocks → s .params b ≡ s′ .params b
+  pub owns : (b : ℕ) → b < limits .blocks → s .owns b ≡ s′ .owns b
   pub pending : (b : ℕ) → b < limits .blocks → firsts (s .pending b) ≡ firsts (s′ .pending b)
   pub defs : (v b : ℕ) → v < limits .variables → b < limits .blocks → def s v b ≡ def s′ v b
   pub args : (p i : ℕ) → p < limits .blocks → i < limits .dests → s .args p i ≡ s′ .args p i

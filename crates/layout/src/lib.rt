@@ -41,9 +41,11 @@ pub const ZERO_BLOCKS: usize = ZERO_CALLS + entity::ZERO_ROW;
 
 pub const PARAMS: usize = ZERO_BLOCKS + entity::ZERO_ROW;
 
-pub const PENDING: usize = PARAMS + entity::BLOCKS as usize * entity::PARAM_ROW;
+pub const OWNS: usize = PARAMS + entity::BLOCKS as usize * entity::PARAM_ROW;
 
-pub const DEFS: usize = PENDING + entity::BLOCKS as usize * entity::PARAM_ROW;
+pub const PENDING: usize = OWNS + entity::BLOCKS as usize;
+
+pub const DEFS: usize = PENDING + entity::BLOCKS as usize * entity::WAIT_ROW;
 
 pub const ARGS: usize = DEFS + (entity::VARIABLES * entity::BLOCKS) as usize;
 
@@ -70,7 +72,7 @@ pub fn graph_starts() -> [usize; 8]
     ]
 }
 
-pub fn form_starts() -> [usize; 12]
+pub fn form_starts() -> [usize; 13]
     ensures { λ r. ⌜ r ≡ starts form-sizes ⌝ }
 {
     [
@@ -82,6 +84,7 @@ pub fn form_starts() -> [usize; 12]
         ZERO_CALLS,
         ZERO_BLOCKS,
         PARAMS,
+        OWNS,
         PENDING,
         DEFS,
         ARGS,

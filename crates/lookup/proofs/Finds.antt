@@ -2,7 +2,7 @@
 -- recorded there, and the parameter made is the definition's.
 -- Assumes nothing.
 use Prim.Native.Nat.{ℕ, suc, _-_, _<_}
-use mathlib.Core.Path.{_≡_, sym, ap, _∙_, subst}
+use mathlib.Core.Path.{_≡_, refl, sym, ap, _∙_, subst}
 use mathlib.Core.Bool.{Bool, true, false}
 use mathlib.Core.Option.{Option, none, some}
 use mathlib.Core.List.{List, [], _∷_}
@@ -14,8 +14,9 @@ use Rattle.entity.specs.Limits.{limits, value-room}
 use Rattle.entity.specs.Options.{value-of}
 use Rattle.entity.specs.Described.{type-room}
 use Rattle.definition.specs.Base.{_∷ʳ_}
-use Rattle.definition.specs.Form.{Graph, Form, param, def}
+use Rattle.definition.specs.Form.{Graph, Form, Sort, param, def}
 use Rattle.definition.specs.Read.{make, set-params, mark-one, new-param, wait}
+use Rattle.definition.specs.Tables.{sort-number}
 use Rattle.meaning.specs.Machine.{Task, conf, schedule, open-param, find}
 use Rattle.meaning.proofs.Maps.{or-none}
 use Rattle.meaning.proofs.Reading.{Walked, walked}
@@ -93,10 +94,10 @@ module _ {gl fl wl : List ℕ} {c : Counts} {v ty b : ℕ} {g : Graph} {s : Form
         abbrev appended : ℕ → Form
         appended t = set-params blk (s .params blk ∷ʳ s .next) (make param t blk s)
 
-        module _ {fl₁ : List ℕ} {d : Counts} (A : (d ≡ more c) × ((s : Form) → Can-append fl c blk s
-            → Shows fl₁ (more c) (set-params blk (s .params blk ∷ʳ s .next) (make param ty blk s)))) where
+        module _ {fl₁ : List ℕ} {d : Counts} (A : (d ≡ more c) × ((s : Form) → Can-append fl c blk s → (k : Sort) → sort-number param ≡ sort-number k
+            → Shows fl₁ (more c) (set-params blk (s .params blk ∷ʳ s .next) (make k ty blk s)))) where
           pub record-has : Has-def fl₁ v blk (set-params blk (s .params blk ∷ʳ s .next) (make param ty blk s))
-          record-has = record { cells = A .1 s append-can .cells; var = var-low H; known = block-low }
+          record-has = record { cells = A .1 s append-can param refl .cells; var = var-low H; known = block-low }
 
           stacked : Stacks wl d ts rs
           stacked = rw (A .0) (record { cells = H .stacks .cells; calls = H .stacks .calls; results = H .stacks .results })

@@ -5,7 +5,7 @@ use mathlib.Core.Path.{_≡_}
 use mathlib.Core.Option.{Option, none, some}
 use mathlib.Core.List.{List, []}
 use lib.ListN.{length}
-use Rattle.entity.specs.Limits.{limits, value-room, param-room, call-room, result-room}
+use Rattle.entity.specs.Limits.{limits, value-room, wait-room, param-room, call-room, result-room}
 use Rattle.definition.specs.Form.{Graph, Form, def}
 use Rattle.definition.specs.Read.{type-of}
 use Rattle.meaning.specs.Machine.{Task, find, visit}
@@ -35,7 +35,7 @@ pub record Can-begin (gl wl : List ℕ) (c : Counts) (x b : ℕ) (g : Graph) (ts
 pub record Open (g : Graph) (s : Form) (ts : List Task) (d : ℕ) : Type 0 where
   pub next : s .next < value-room limits
   pub params : length (s .params d) < param-room limits
-  pub waits : length (s .pending d) < param-room limits
+  pub waits : length (s .pending d) < wait-room limits
   pub calls : length (g .preds d) + length ts < call-room limits
 
 -- the machine can look v up: each block without a definition of it can get a parameter

@@ -133,7 +133,7 @@ fn find_var(
         return Found(met, from, d);
     }
     let val = Value(c.values);
-    let d = form::append_block_param(form, c, from, ty);
+    let d = form::append_block_param(form, c, from, form::PARAM, ty);
     form::record_def(form, var, from, val);
     if graph::is_sealed(graph, from) {
         let e = begin_predecessors_lookup(graph, work, d, val, from);

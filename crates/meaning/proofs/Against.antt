@@ -4,7 +4,7 @@ use Prim.Native.Nat.{ℕ}
 use mathlib.Core.Path.{_≡_, refl}
 use mathlib.Core.List.{List, [], _∷_, _++_, map}
 use Rattle.definition.specs.Session.{Call, session}
-use Rattle.definition.specs.Calls.{declare-var, make-value, define, use-var, new-branch, new-dest, drop-pred, seal-all, blocks, sets, jumps}
+use Rattle.definition.specs.Calls.{declare-var, make-value, define, use-var, new-branch, new-dest, drop-pred, seal-all, own-param, blocks, sets, jumps}
 use Rattle.meaning.specs.Trace.{finds}
 
 -- A zero holds 0, an unset value 1, a made value 2.
@@ -49,6 +49,18 @@ foreign = blocks 2 ++ declare-var 0 2 ∷ make-value 1 2 ∷ define 0 0 0 ∷ []
 pub made-anew : found-on foreign (0 ∷ []) ≡ (2, 1) ∷ []
 made-anew = refl
 
+-- 5. Block 1 has a caller's parameter, 0, for which no argument is given: the builder's argument takes its place, and the builder's parameter, 2, gets none.
+abbrev pub short : List Call
+short =
+    blocks 2 ++ declare-var 0 2 ∷ own-param 1 2 ∷ [] ++ sets 0 2 1 0 ++ jumps 0 (1 ∷ []) ++ use-var 0 1 ∷ [] ++ sets 0 2 3 1 ++ jumps 1
+    (1 ∷ []) ++ seal-all ∷ []
+
+pub in-its-place : (session short .form .params 1 ≡ 0 ∷ 2 ∷ []) × (session short .form .args 0 0 ≡ 1 ∷ [])
+in-its-place = (refl, refl)
+
+pub never-brought : found-on short (0 ∷ []) ≡ (1, 2) ∷ []
+never-brought = refl
+
 -- What need not be supposed: a definition in block 0 after its branch was declared gets 20, also once the branch was removed.
 abbrev pub late : List Call
 late = blocks 2 ++ declare-var 0 2 ∷ make-value 0 2 ∷ [] ++ jumps 0 (1 ∷ []) ++ define 0 0 0 ∷ drop-pred 1 0 ∷ define 0 0 0 ∷ []
@@ -71,3 +83,10 @@ unfed =
 
 pub none-ever : (session unfed .form .params 1 ≡ 1 ∷ []) × (session unfed .form .args 1 0 ≡ 2 ∷ []) × (session unfed .form .args 2 0 ≡ [])
 none-ever = (refl, refl, refl)
+
+-- 5: a caller's parameter for which none is given has none.
+abbrev pub ungiven : List Call
+ungiven = blocks 2 ++ own-param 1 0 ∷ [] ++ jumps 0 (1 ∷ []) ++ seal-all ∷ []
+
+pub none-given : (session ungiven .form .params 1 ≡ 0 ∷ []) × (session ungiven .form .args 0 0 ≡ [])
+none-given = (refl, refl)

@@ -1,10 +1,12 @@
--- Two lists of calls on whose paths each use finds what its variable received, shown by computing: the swap, and a fork with a loop round its join.
+-- Three lists of calls on whose paths each use finds what its variable received, shown by computing: the swap, a fork with a loop round its join, and a loop
+-- that carries an index.
 -- Assumes nothing.
 use Prim.Native.Nat.{ℕ, _+_, _*_}
 use mathlib.Core.Path.{_≡_, refl}
 use mathlib.Core.List.{List, [], _∷_, _++_}
 use Rattle.definition.specs.Session.{Call, session}
-use Rattle.definition.specs.Calls.{declare-var, define, use-var, seal, seal-all, blocks, sets, jumps}
+use Rattle.definition.specs.Calls.{declare-var, make-value, define, use-var, new-branch, new-dest, add-pred, seal, seal-all, own-param, give-arg, blocks}
+use Rattle.definition.specs.Calls.{sets, jumps}
 use Rattle.meaning.specs.Trace.{finds}
 
 -- The swap, case J of docs/RULES.md. Block 0 gives variables 0 and 1 their values; block 1 uses both, answers 2 and 3, gives each the other's answer, and goes
@@ -75,3 +77,31 @@ round-by-block-2 = refl
 -- 0, 1, 3, 3, 4
 pub out-by-block-1 : on-path (0 ∷ 0 ∷ 0 ∷ 1 ∷ []) ≡ (307, 307) ∷ (101, 101) ∷ []
 out-by-block-1 = refl
+
+-- The counter. Block 0 goes to 1 with the first index, 1; block 1 goes round with the next, 4, or to 2. Its caller's parameter 0 holds the index, which it
+-- gives to variable 0. Variable 1 gets value 2 in block 0 and value 5 in the loop.
+abbrev pub counter : List Call
+counter =
+    blocks 3 ++ declare-var 0 2 ∷ declare-var 1 2 ∷ own-param 1 2 ∷ make-value 0 2 ∷ [] ++ sets 1 2 2 0
+    ++ new-branch 0 ∷ new-dest 0 1 ∷ give-arg 0 1 0 ∷ add-pred 1 0 ∷ []
+    ++ define 0 0 1 ∷ use-var 0 1 ∷ use-var 1 1 ∷ make-value 1 2 ∷ [] ++ sets 1 2 5 1
+    ++ new-branch 1 ∷ new-dest 1 1 ∷ new-dest 1 2 ∷ give-arg 1 4 0 ∷ add-pred 1 1 ∷ add-pred 2 1 ∷ seal-all ∷ use-var 0 2 ∷ use-var 1 2 ∷ []
+
+-- the caller's parameter stands before the builder's, and so do their arguments
+pub index-first : (session counter .form .params 1 ≡ 0 ∷ 3 ∷ []) × (session counter .form .args 0 0 ≡ 1 ∷ 2 ∷ []) ×
+    (session counter .form .args 1 0 ≡ 4 ∷ 5 ∷ [])
+index-first = (refl, refl, refl)
+
+abbrev pub on-count : List ℕ → List (ℕ × ℕ)
+on-count = finds ℕ (λ type. 1000 + type) (λ n x. 100 * n + x) (λ x. 2000 + x) (session counter)
+
+-- the first index and the next, each with what variable 1 received
+pub first-round : on-count (0 ∷ []) ≡ (1, 1) ∷ (2, 2) ∷ []
+first-round = refl
+
+pub second-round : on-count (0 ∷ 0 ∷ []) ≡ (104, 104) ∷ (105, 105) ∷ []
+second-round = refl
+
+-- and after the loop
+pub counted-out : on-count (0 ∷ 0 ∷ 1 ∷ []) ≡ (104, 104) ∷ (205, 205) ∷ []
+counted-out = refl

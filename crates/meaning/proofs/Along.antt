@@ -10,13 +10,13 @@ use lib.Dec.{eqb}
 use lib.ListN.{length, getD}
 use native.Mathlib.Omega.{arith}
 use Rattle.definition.specs.Base.{put}
-use Rattle.definition.specs.Form.{Form, Sort, made, param, nought, def}
+use Rattle.definition.specs.Form.{Form, Sort, made, param, nought, caller, def}
 use Rattle.definition.specs.Read.{resolve, type-of}
 use Rattle.definition.specs.Session.{State}
-use Rattle.meaning.specs.Path.{In, Act, makes, gives, uses, acts, Mem, do-act, do-acts, bring, zeroed, zeros-set, enter, At, start, go, Supposed}
+use Rattle.meaning.specs.Path.{In, Act, makes, gives, uses, acts, Mem, do-act, do-acts, bring, zeroed, zeros-set, enter, At, start, go, Counted}
 use Rattle.meaning.specs.Path.{Faithful}
 use Rattle.meaning.proofs.Maps.{some-inj, put-at, same?, put-other, eqb-diff, some-none}
-use Rattle.meaning.proofs.Facts.{arg-of, cur, Edge, same, kept, Told, Facts}
+use Rattle.meaning.proofs.Facts.{arg-of, cur, Edge, same, kept, Told, Facts, Is-param, Own-param}
 use Rattle.meaning.proofs.Lists.{getD-in, in-cons, in-one}
 
 module _ (W : Type 0) (null : ℕ → W) (t : State) where
@@ -25,6 +25,9 @@ module _ (W : Type 0) (null : ℕ → W) (t : State) where
 
   abbrev R : ℕ → ℕ
   R x = resolve form x
+
+  caller-made : {k : Sort} → k ≡ caller → k ≡ made → ⊥
+  caller-made p q = let z : _≡_ {A = ℕ} 0 1 = cc in omega arith
 
   -- ---- the acts of block b, with the blocks vis visited
 
@@ -58,12 +61,16 @@ module _ (W : Type 0) (null : ℕ → W) (t : State) where
       ready-gives v x r told = record {
         here = h .here;
         good = λ u o e. elim (same? u v) [
-          | inl q ↦ rw (some-inj (sym e ∙ put-at v (some x) f u q), put-at v (m .val (R x)) (m .var) u q) (refl, ⊎-elim (h .made-here x) (h .heard x) (told .0))
+          | inl q ↦ rw (some-inj (sym e ∙ put-at v (some x) f u q), put-at v (m .val (R x)) (m .var) u q)
+              (refl, ⊎-elim (⊎-elim (h .made-here x) (h .heard x)) (own-set x) (told .0))
           | inr n ↦ rw (put-other v (m .val (R x)) (m .var) u n) (h .good u o (sym (put-other v (some x) f u n) ∙ e))
         ];
         made-here = h .made-here;
         heard = h .heard;
       }
+        where
+          own-set : (y : ℕ) → Own-param graph form b y → Set-by ms (R y)
+          own-set y o = rw (o .2) (rw (o .0) (h .here), λ p q. absurd (caller-made (o .1) q))
 
       ready-uses : (v x : ℕ) (r : List Act) → Told graph form b f ms us (uses v x ∷ r) → Ready ms (x ∷ us) f m
       ready-uses v x r told = record {
@@ -117,12 +124,22 @@ module _ (W : Type 0) (null : ℕ → W) (t : State) where
       by nought = rw (eqb-diff (info y .home) b n)
       by made = refl
       by param = refl
+      by caller = refl
 
   nought-made : {k : Sort} → k ≡ nought → k ≡ made → ⊥
   nought-made p q = let z : _≡_ {A = ℕ} 0 1 = cc in omega arith
 
   param-made : {k : Sort} → k ≡ param → k ≡ made → ⊥
   param-made p q = let z : _≡_ {A = ℕ} 0 1 = cc in omega arith
+
+  -- no parameter is made, nor is it set with the zeros
+  not-made : {k : Sort} → Is-param k → k ≡ made → ⊥
+  not-made (inl p) q = param-made p q
+  not-made (inr p) q = caller-made p q
+
+  not-zeroed : (b : ℕ) (w : W) (type home : ℕ) (k : Sort) → Is-param k → zeroed W null t b w type home k ≡ w
+  not-zeroed b w type home k (inl p) = rw p refl
+  not-zeroed b w type home k (inr p) = rw p refl
 
   abbrev Same : ℕ → ℕ → ℕ → Type 0
   Same v b e = (p : ℕ) → In p (graph .preds b) → (o : ℕ) × (def form v p ≡ some o) × (R o ≡ R e)
@@ -139,7 +156,7 @@ module _ (W : Type 0) (null : ℕ → W) (t : State) where
   ready : (bs : List ℕ) (b : ℕ) (m : Mem W null t) → Held bs b m → Ready b (b ∷ bs) [] [] (λ v. entry v b) m
   ready bs b m h = record { here = inl refl; good = h .good; made-here = λ x i. absurd i; heard = λ x i. absurd i }
 
-  module _ (F : Facts t) (S : Supposed t) (fresh : ℕ → ℕ → W) (any : ℕ → W) where
+  module _ (F : Facts t) (S : Counted t) (fresh : ℕ → ℕ → W) (any : ℕ → W) where
     at-start : Held [] 0 (record { val = zeros-set W null t 0 any; var = λ v. null (type-of graph v) })
     at-start = record {
       clean = λ c i n. absurd (n (in-one c 0 i));
@@ -170,7 +187,7 @@ module _ (W : Type 0) (null : ℕ → W) (t : State) where
           let o = sm p declared in
           h .clean to (rw (o .2, home) at (out v (o .0) (o .1) .1)) (λ z. S .none-enters-0 p (rw z at inside)) v e q sm home
 
-      good-at : (v e : ℕ) → entry v to ≡ some e → Edge graph form params v to e
+      good-at : (v e : ℕ) → entry v to ≡ some e → Edge graph (λ q j. 0) form params v to e
           → (zeros-set W null t to brought (R e) ≡ after .var v) × Set-by to (to ∷ p ∷ bs) [] (R e)
       good-at v e q (same _ sm) =
           let o = sm p declared in
@@ -184,8 +201,9 @@ module _ (W : Type 0) (null : ℕ → W) (t : State) where
           let a = o .2 i lt refl in
           let par = F .params to e x in
           rw r (
-            rw (par .1) (bring-arg (params to) (args p i) (after .val) e (a .0) (a .1) ∙ ap (after .val) (a .2) ∙ out v (o .0) (o .1) .0),
-            (inl (par .0), λ _ s. absurd (param-made (par .1) s)),
+            not-zeroed to (brought e) (info e .type) (info e .home) (info e .sort) (par .1) ∙ bring-arg (params to) (args p i) (after .val) e (a .0) (a .1)
+                ∙ ap (after .val) (a .2) ∙ out v (o .0) (o .1) .0,
+            (inl (par .0), λ _ s. absurd (not-made (par .1) s)),
           )
 
       next : Held (p ∷ bs) to (enter W null t to (args p i) after)
@@ -195,6 +213,6 @@ module _ (W : Type 0) (null : ℕ → W) (t : State) where
     along start = at-start
     along (go {bs} {p} {m} i a lt) = next bs p m i (along a) lt
 
-pub faithful : (t : State) → Facts t → Supposed t → (W : Type 0) (null : ℕ → W) → Faithful W null t
+pub faithful : (t : State) → Facts t → Counted t → (W : Type 0) (null : ℕ → W) → Faithful W null t
 faithful t F S W null fresh any bs b m at r after v x e =
     at-use W null t b (b ∷ bs) (fresh (length bs)) [] [] (λ w. t .form .entry w b) m r after v x (rw e at (F .told b)) (ready W null t bs b m (along W null t F S fresh any at))

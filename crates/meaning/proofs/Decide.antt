@@ -1,17 +1,18 @@
 -- A test that comes out true exactly where a statement holds decides it; tests joined by not, and, implies and for-each decide the statements joined likewise.
 -- Assumes nothing.
 use Prim.Native.Nat.{ℕ, zero, suc, _<_}
-use mathlib.Core.Path.{_≡_, refl, sym, subst}
+use mathlib.Core.Path.{_≡_, refl, sym, ap, _∙_, subst}
 use mathlib.Core.Logic.{_≢_, _⊎_, inl, inr}
 use mathlib.Core.Bool.{Bool, true, false, not, _&&_, _||_}
 use mathlib.Core.List.{List, [], _∷_}
+use lib.Dec.{eqb}
 use native.Mathlib.Omega.{arith}
 use native.Mathlib.Nat.{not-suc-le-zero}
 use Rattle.definition.specs.Base.{has, every}
 use Rattle.meaning.specs.Path.{In}
 use Rattle.meaning.specs.Suppositions.{below}
 use Rattle.meaning.proofs.Maps.{same?}
-use Rattle.meaning.proofs.Maps.{false-true}
+use Rattle.meaning.proofs.Maps.{false-true, eqb-eq, eqb-same}
 use Rattle.meaning.proofs.Lists.{has-in, in-has}
 
 pub record Decides (b : Bool) (A : Type 0) : Type 0 where
@@ -38,6 +39,17 @@ denied {b = false} d = record { sound = λ e a. false-true refl (d .complete a);
 pub both : {A B : Type 0} {a b : Bool} → Decides a A → Decides b B → Decides (a && b) (A × B)
 both {a = true} p q = record { sound = λ e. (p .sound refl, q .sound e); complete = λ h. q .complete (h .1) }
 both {a = false} p q = record { sound = λ e. absurd (false-true refl e); complete = λ h. absurd (false-true refl (p .complete (h .0))) }
+
+pub either : {A B : Type 0} {a b : Bool} → Decides a A → Decides b B → Decides (a || b) (A ⊎ B)
+either {a = true} p q = record { sound = λ e. inl (p .sound refl); complete = λ h. refl }
+either {A} {B} {a = false} {b} p q = record { sound = λ e. inr (q .sound e); complete = on }
+  where
+    on : A ⊎ B → b ≡ true
+    on (inl x) = absurd (false-true refl (p .complete x))
+    on (inr y) = q .complete y
+
+pub equal : (m n : ℕ) → Decides (eqb m n) (m ≡ n)
+equal m n = record { sound = eqb-eq m n; complete = λ e. ap (λ (k : ℕ). eqb k n) e ∙ eqb-same n }
 
 pub implied : {B : Type 0} (a : Bool) {b : Bool} → Decides b B → Decides (not a || b) (a ≡ true → B)
 implied true q = record { sound = λ e _. q .sound e; complete = λ h. q .complete (h refl) }

@@ -13,14 +13,16 @@ use Rattle.meaning.specs.Path.{In}
 use Rattle.meaning.proofs.Maps.{same?, put-same, put-other, put-at, put₂-at, put₂-other, here?, some-none, put₂-is}
 use Rattle.meaning.proofs.Alias.{follow-more}
 use Rattle.meaning.proofs.Lists.{in-cases, nodup-snoc, snds, snds-append, in-one, in-right, in-left}
-use Rattle.meaning.proofs.Inv.{Grow, pending, Param, Inv, edge-grow, nought-grow, pending-par, kept-root, param-grow, Work, aliased-more}
+use Rattle.meaning.proofs.Inv.{Grow, pending, Param, Inv, edge-grow, nought-grow, pending-par, kept-root, param-grow, Work, aliased-more, owned-more}
+use Rattle.meaning.proofs.Inv.{gave-more}
+use Rattle.meaning.proofs.Inv.{caller-param, Frame, cut}
 
 -- the form with a new parameter for v on c, where ws waits
 abbrev pub grown : Graph → Form → ℕ → ℕ → Work → Form
 grown g s v c ws = with-pending (new-param g v c s) ws
 
 -- 4. a new parameter x for v on c
-module _ (g : Graph) (E : Type 0) (s : Form) (kp : ℕ → List ℕ) (op op′ : Work) (h : Inv g E s kp op) (v c : ℕ)
+module _ (g : Graph) (E : Frame) (s : Form) (kp : ℕ → List ℕ) (op op′ : Work) (h : Inv g E s kp op) (v c : ℕ)
     (ws : Work)
     (blank : s .entry v c ≡ none) (lv : v < length (g .types)) (lc : c < g .blocks)
     (elsewhere : (b : ℕ) → b ≢ c → cond (g .sealed b) (op′ b) (ws b) ≡ pending g s op b)
@@ -74,12 +76,18 @@ module _ (g : Graph) (E : Type 0) (s : Form) (kp : ℕ → List ℕ) (op op′ :
         ap (λ (k : Info). k .type) (grown-grow .info y (h .listed .pars b y (pending-par g E s kp op h w b y j) .below)) ∙ k .1,
       )
 
+  -- the builder's parameters, with the new one
+  built : (b : ℕ) → b ≡ c → kp b ++ snds (pending g now op′ b) ≡ (kp b ++ snds (pending g s op b)) ++ x ∷ []
+  built b q = ap (λ (l : List (ℕ × ℕ)). kp b ++ snds l) (at-c b q) ∙ ap (λ (l : List ℕ). kp b ++ l) (snds-append (pending g s op b) ((v, x) ∷ []))
+      ∙ sym (append-assoc (kp b) (snds (pending g s op b)) (x ∷ []))
+
   pub grown-inv : Inv g E (grown g s v c ws) kp op′
   grown-inv = record {
     known = λ w b e q. elim (put₂-is v c x (s .entry) w b e q) [ inl k ↦ (rw (k .0) lv, rw (k .1) lc) | inr o ↦ h .known w b e o ];
     edge = λ ok w b e q. elim (put₂-is v c x (s .entry) w b e q) [
       | inl k ↦ inl (also w b e k)
-      | inr o ↦ ⊎-map (still w b e) (edge-grow g s now kp kp grown-grow w b e (λ i. (kept-root g E s kp op h b e i, i, λ _ _ _ _ _ _ a. a))) (h .edge ok w b e o)
+      | inr o ↦ ⊎-map (still w b e) (edge-grow g (cut E) s now kp kp grown-grow w b e (λ i. (kept-root g E s kp op h b e i, i, λ _ _ _ _ _ _ a. a)))
+          (h .edge ok w b e o)
     ];
     first = λ ok w b e q empty. elim (put₂-is v c x (s .entry) w b e q) [
       | inl k ↦ inl (also w b e k)
@@ -98,23 +106,24 @@ module _ (g : Graph) (E : Type 0) (s : Form) (kp : ℕ → List ℕ) (op op′ :
     listed = record {
       split = λ b. elim (same? b c) [
         | inl q ↦ put-at c (s .params c ++ x ∷ []) (s .params) b q ∙ ap (λ (k : ℕ). s .params k ++ x ∷ []) (sym q) ∙ ap (λ (l : List ℕ). l ++ x ∷ []) (h .listed .split b)
-            ∙ append-assoc (kp b) (snds (pending g s op b)) (x ∷ []) ∙ ap (λ (l : List ℕ). kp b ++ l) (sym (snds-append (pending g s op b) ((v, x) ∷ [])))
-            ∙ ap (λ (l : List (ℕ × ℕ)). kp b ++ snds l) (sym (at-c b q))
+            ∙ append-assoc (E .caller .params b) (kp b ++ snds (pending g s op b)) (x ∷ []) ∙ ap (λ (l : List ℕ). E .caller .params b ++ l) (sym (built b q))
         | inr n ↦ rw (put-other c (s .params c ++ x ∷ []) (s .params) b n, elsewhere b n) (h .listed .split b)
       ];
       pars = λ b y i. elim (same? b c) [
-        | inl q ↦ elim (in-cases y (s .params c) (x ∷ []) (rw (put-at c (s .params c ++ x ∷ []) (s .params) b q) at i)) [
-          | inl j ↦ old-par b y (h .listed .pars b y (rw q j))
+        | inl q ↦ elim (in-cases y (kp b ++ snds (pending g s op b)) (x ∷ []) (rw (built b q) at i)) [
+          | inl j ↦ old-par b y (h .listed .pars b y j)
           | inr j ↦ rw (q, in-one y x j) new-par
         ]
-        | inr n ↦ old-par b y (h .listed .pars b y (rw (put-other c (s .params c ++ x ∷ []) (s .params) b n) at i))
+        | inr n ↦ old-par b y (h .listed .pars b y (rw (elsewhere b n) at i))
       ];
       nodup = λ b. elim (same? b c) [
-        | inl q ↦ rw (put-at c (s .params c ++ x ∷ []) (s .params) b q) (nodup-snoc (s .params c) x (h .listed .nodup c) (λ i. omega (arith, h .listed .pars c x i .below)))
-        | inr n ↦ rw (put-other c (s .params c ++ x ∷ []) (s .params) b n) (h .listed .nodup b)
+        | inl q ↦ rw (built b q) (nodup-snoc (kp b ++ snds (pending g s op b)) x (h .listed .nodup b) (λ i. omega (arith, h .listed .pars b x i .below)))
+        | inr n ↦ rw (elsewhere b n) (h .listed .nodup b)
       ];
       bare = h .listed .bare;
     };
+    owned = owned-more (h .owned) new (λ e. caller-param e refl);
     passed = h .passed;
+    gave = gave-more (h .owned) (h .passed .short) (h .gave) new;
     aliased = aliased-more (h .aliased) new;
   }

@@ -7,7 +7,7 @@ use mathlib.Core.Bool.{true, false}
 use mathlib.Core.Option.{some}
 use mathlib.Core.List.{List, [], _∷_, _++_, append-assoc}
 use lib.Dec.{eqb}
-use lib.ListN.{length, getD, length-append}
+use lib.ListN.{length, getD, drop, length-append}
 use native.Mathlib.Omega.{arith}
 use native.Mathlib.Nat.{not-suc-le-zero, le-of-suc-le-suc}
 use Rattle.definition.specs.Base.{put}
@@ -18,8 +18,8 @@ use Rattle.meaning.specs.Stored.{Nodup}
 use Rattle.meaning.proofs.Maps.{same?, put-same, put-other, put-at, some-inj, false-true, bool?, eqb-eq, eqb-same, eqb-diff}
 use Rattle.meaning.proofs.Facts.{Edge, kept, arg-of}
 use Rattle.meaning.proofs.Alias.{follow-root}
-use Rattle.meaning.proofs.Lists.{in-left, in-right, snds, arg-more, arg-last}
-use Rattle.meaning.proofs.Inv.{Inv, edge-grow, x-par, was-pending, kept-root, grow-refl, not-kept, still-pending, parts, Work}
+use Rattle.meaning.proofs.Lists.{in-left, in-right, snds, arg-more, arg-last, drop-first}
+use Rattle.meaning.proofs.Inv.{Inv, edge-grow, x-par, was-pending, kept-root, grow-refl, not-kept, still-pending, pending, Work, Frame, cut}
 
 pub dest-yes : (ds : List ℕ) (i b : ℕ) → i < length ds → getD ds i 0 ≡ b → is-dest ds i b ≡ true
 dest-yes [] i b l e = absurd (not-suc-le-zero l)
@@ -87,10 +87,10 @@ result-of v s (p ∷ ps) (r ∷ rs) q h (inl e) = (r, h .0 .0, ap (def s v) e �
 result-of v s (p ∷ ps) (r ∷ rs) q h (inr i) = let k = result-of v s ps rs q (h .1) i in (k .0, k .1, k .2, k .3, inr (k .4))
 
 -- 5. the parameter x of b, the first that is at work there, is kept
-module _ (g : Graph) (E : Type 0) (s : Form) (kp : ℕ → List ℕ) (op : Work) (h : Inv g E s kp op) (v b x : ℕ)
+module _ (g : Graph) (E : Frame) (s : Form) (kp : ℕ → List ℕ) (op : Work) (h : Inv g E s kp op) (v b x : ℕ)
     (ws : List (ℕ × ℕ))
     (seal : g .sealed b ≡ true) (at : op b ≡ (v, x) ∷ ws) (rs : List ℕ) (len : length rs ≡ length (g .preds b))
-    (res : E → Results v s (g .preds b) rs)
+    (res : E .sup → Results v s (g .preds b) rs)
     (nd : Nodup (g .preds b)) (some-pred : g .preds b ≡ [] → ⊥) where
   abbrev s′ : Form
   s′ = with-args s (feed-all g b (g .preds b) rs (s .args))
@@ -115,7 +115,18 @@ module _ (g : Graph) (E : Type 0) (s : Form) (kp : ℕ → List ℕ) (op : Work)
   args-else : (p i : ℕ) → getD (g .dests p) i 0 ≢ b → s′ .args p i ≡ s .args p i
   args-else p i n = all-else g b (g .preds b) rs (s .args) p i (λ _. elim (bool? (is-dest (g .dests p) i b)) [ inl q ↦ absurd (n (dest-is (g .dests p) i b q .1)) | inr q ↦ q ])
 
-  new : E → Edge g s′ kp′ v b x
+  -- the caller's arguments, then the builder's, where p's destination at i is b
+  fed-at : (p i : ℕ) → In p (g .preds b) → i < length (g .dests p) → getD (g .dests p) i 0 ≡ b
+      → (r : List ℕ) × (s .args p i ≡ E .caller .args p i ++ r) × (length r ≡ length (kp b))
+  fed-at p i ip lt q = rw q at (h .passed .fed p i lt (rw q seal) (rw q ip))
+
+  -- the builder's, with one more
+  past : (p i : ℕ) (r : List ℕ) (y : ℕ) → s .args p i ≡ E .caller .args p i ++ r → s′ .args p i ≡ s .args p i ++ y ∷ []
+      → drop (cut E p i) (s′ .args p i) ≡ r ++ y ∷ []
+  past p i r y e more = ap (drop (cut E p i)) (more ∙ ap (λ (l : List ℕ). l ++ y ∷ []) e ∙ append-assoc (E .caller .args p i) r (y ∷ []))
+      ∙ drop-first (E .caller .args p i) (r ++ y ∷ [])
+
+  new : E .sup → Edge g (cut E) s′ kp′ v b x
   new ok = kept seal (follow-root (s .target) (s .next) x (x-par g E s kp op h v b x ws seal at .root)) (rw (kp-at b refl) (in-right x (kp b) (x ∷ []) (inl refl)))
       (λ p ip. let k = result-of v s (g .preds b) rs p (res ok) ip in (
         k .1,
@@ -123,24 +134,36 @@ module _ (g : Graph) (E : Type 0) (s : Form) (kp : ℕ → List ℕ) (op : Work)
         λ i lt q.
             let a = took p i ip lt q in
             let o = result-at v s (g .preds b) rs p (a .0) (res ok) (a .2) in
-            let old : length (s .args p i) ≡ length (kp b) = rw q at (h .passed .fed p i lt (rw q seal) (rw q ip)) in (
+            let old = fed-at p i ip lt q in (
               a .0,
-              rw (kp-at b refl, a .1) (arg-last (kp b) (s .args p i) x (a .0) (not-kept g E s kp op h v b x ws seal at b) old),
+              rw (kp-at b refl, past p i (old .0) (a .0) (old .1) (a .1))
+                  (arg-last (kp b) (old .0) x (a .0) (not-kept g E s kp op h v b x ws seal at b) (old .2)),
               o .2 ∙ ap (resolve s) (some-inj (sym (o .1) ∙ k .2)),
             ),
       ))
 
   -- what was kept stays, with its arguments
   stays : (c e : ℕ) → In e (kp c) → (s .target e ≡ e) × In e (kp′ c)
-      × ((p i a : ℕ) → In p (g .preds c) → i < length (g .dests p) → getD (g .dests p) i 0 ≡ c → arg-of (kp c) (s .args p i) e ≡ some a
-      → arg-of (kp′ c) (s′ .args p i) e ≡ some a)
+      × ((p i a : ℕ) → In p (g .preds c) → i < length (g .dests p) → getD (g .dests p) i 0 ≡ c → arg-of (kp c) (drop (cut E p i) (s .args p i)) e ≡ some a
+      → arg-of (kp′ c) (drop (cut E p i) (s′ .args p i)) e ≡ some a)
   stays c e i = elim (same? c b) [
     | inl q ↦ (
       kept-root g E s kp op h c e i,
       rw (kp-at c q) (in-left e (kp c) (x ∷ []) i),
-      λ p j a ip lt d f. let o = took p j (rw q at ip) lt (d ∙ q) in rw (kp-at c q, o .1) (arg-more (kp c) (x ∷ []) (s .args p j) (o .0 ∷ []) e a f),
+      λ p j a ip lt d f.
+          let o = took p j (rw q at ip) lt (d ∙ q) in
+          let old = fed-at p j (rw q at ip) lt (d ∙ q) in
+          let was = ap (drop (cut E p j)) (old .1) ∙ drop-first (E .caller .args p j) (old .0) in
+          rw (kp-at c q, past p j (old .0) (o .0) (old .1) (o .1)) (arg-more (kp c) (x ∷ []) (old .0) (o .0 ∷ []) e a (rw was at f)),
     )
     | inr n ↦ (kept-root g E s kp op h c e i, rw (kp-else c n) i, λ p j a ip lt d f. rw (kp-else c n, args-else p j (λ u. n (sym d ∙ u))) f)
+  ]
+
+  -- the builder's parameters are the same
+  moved : (c : ℕ) → kp′ c ++ snds (pending g s′ op′ c) ≡ kp c ++ snds (pending g s op c)
+  moved c = elim (same? c b) [
+    | inl q ↦ rw (q, seal, put-same b ws op, kp-at b refl) (append-assoc (kp b) (x ∷ []) (snds ws) ∙ sym (ap (λ (l : List (ℕ × ℕ)). kp b ++ snds l) at))
+    | inr n ↦ rw (put-other b ws op c n, kp-else c n) refl
   ]
 
   pub keep-inv : Inv g E s′ kp′ op′
@@ -148,7 +171,7 @@ module _ (g : Graph) (E : Type 0) (s : Form) (kp : ℕ → List ℕ) (op : Work)
     known = h .known;
     edge = λ ok w c e q. elim (h .edge ok w c e q) [
       | inl i ↦ elim (was-pending g E s kp op h v b x ws seal at w c e i) [ inl k ↦ inr (rw (k .0, k .1, k .2) (new ok)) | inr j ↦ inl j ]
-      | inr k ↦ inr (edge-grow g s s′ kp kp′ (grow-refl s) w c e (stays c e) k)
+      | inr k ↦ inr (edge-grow g (cut E) s s′ kp kp′ (grow-refl s) w c e (stays c e) k)
     ];
     first = λ ok w c e q empty. elim (h .first ok w c e q empty) [
       | inl i ↦ elim (was-pending g E s kp op h v b x ws seal at w c e i) [ inl k ↦ absurd (some-pred (rw (k .1) at empty)) | inr j ↦ inl j ]
@@ -156,18 +179,27 @@ module _ (g : Graph) (E : Type 0) (s : Form) (kp : ℕ → List ℕ) (op : Work)
     ];
     pend = λ w c z i. h .pend w c z (still-pending g E s kp op h v b x ws seal at w c z i);
     listed = record {
-      split = λ c. elim (same? c b) [
-        | inl q ↦ rw (q, seal, put-same b ws op, kp-at b refl) (parts g E s kp op h v b x ws seal at ∙ sym (append-assoc (kp b) (x ∷ []) (snds ws)))
-        | inr n ↦ rw (put-other b ws op c n, kp-else c n) (h .listed .split c)
-      ];
-      pars = h .listed .pars;
-      nodup = h .listed .nodup;
+      split = λ c. rw (moved c) (h .listed .split c);
+      pars = λ c z i. h .listed .pars c z (rw (moved c) at i);
+      nodup = λ c. rw (moved c) (h .listed .nodup c);
       bare = λ c e. kp-else c (λ q. false-true e (ap (g .sealed) q ∙ seal)) ∙ h .listed .bare c e;
     };
+    owned = h .owned;
     passed = record {
       fed = λ p i lt sl ip. elim (same? (getD (g .dests p) i 0) b) [
         | inl q ↦ let o = took p i (rw q at ip) lt q in
-            omega (arith, ap length (o .1), length-append (s .args p i) (o .0 ∷ []), h .passed .fed p i lt sl ip, ap length (kp-at (getD (g .dests p) i 0) q), length-append (kp (getD (g .dests p) i 0)) (x ∷ []))
+            let old = h .passed .fed p i lt sl ip in (
+              old .0 ++ o .0 ∷ [],
+              o .1 ∙ ap (λ (l : List ℕ). l ++ o .0 ∷ []) (old .1) ∙ append-assoc (E .caller .args p i) (old .0) (o .0 ∷ []),
+              omega (
+                arith,
+                length-append (old .0) (o .0 ∷ []),
+                old .2,
+                ap length (kp-at (getD (g .dests p) i 0) q),
+                length-append
+                    (kp (getD (g .dests p) i 0)) (x ∷ []),
+              ),
+            )
         | inr n ↦ rw (args-else p i n, kp-else (getD (g .dests p) i 0) n) (h .passed .fed p i lt sl ip)
       ];
       unfed = λ p i n.
@@ -175,6 +207,9 @@ module _ (g : Graph) (E : Type 0) (s : Form) (kp : ℕ → List ℕ) (op : Work)
             | inl q ↦ let d = dest-is (g .dests p) i b q in absurd (n (d .0) (rw (d .1) seal) (rw (d .1) ip))
             | inr q ↦ q
           ]) ∙ h .passed .unfed p i n;
+      there = h .passed .there;
+      short = h .passed .short;
     };
+    gave = h .gave;
     aliased = h .aliased;
   }

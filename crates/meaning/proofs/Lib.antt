@@ -16,6 +16,7 @@ pub mod Reading
 pub mod Sealing
 pub mod Story
 pub mod Graphs
+pub mod Giving
 pub mod Whole
 pub mod Along
 pub mod Demand
@@ -47,5 +48,6 @@ pub mod Enough
 pub mod Stored
 pub mod Steady
 pub mod Holds
+pub mod Brought
 pub mod Turns
 pub mod Answers

@@ -66,6 +66,10 @@ nodup-snoc [] x h n = ((λ i. i), tt)
 nodup-snoc (y ∷ l) x h n = (λ i. elim (in-cases y l (x ∷ []) i) [ inl j ↦ h .0 j | inr j ↦ n (inl (sym (in-one y x j))) ], nodup-snoc l x (h .1) (λ i. n (inr i)))
 
 -- in a list without duplicates, what stands in the first part is not in the second
+pub nodup-both : (l r : List ℕ) → Nodup l → Nodup r → ((x : ℕ) → In x l → In x r → ⊥) → Nodup (l ++ r)
+nodup-both [] r h k n = k
+nodup-both (x ∷ l) r h k n = (λ i. elim (in-cases x l r i) [ inl j ↦ h .0 j | inr j ↦ n x (inl refl) j ], nodup-both l r (h .1) k (λ y i. n y (inr i)))
+
 pub nodup-apart : (l r : List ℕ) (x : ℕ) → Nodup (l ++ r) → In x l → In x r → ⊥
 nodup-apart [] r x h i j = i
 nodup-apart (y ∷ l) r x h (inl e) j = h .0 (in-right y l r (subst (λ (k : ℕ). In k r) e j))
@@ -127,6 +131,19 @@ pub in-snds : (w x : ℕ) (l : List (ℕ × ℕ)) → In (w, x) l → In x (snds
 in-snds w x (q ∷ l) (inl e) = inl (ap (λ (p : ℕ × ℕ). p .1) e)
 in-snds w x (q ∷ l) (inr i) = inr (in-snds w x l i)
 
+pub getD-last : (l : List ℕ) (y : ℕ) → getD (l ++ y ∷ []) (length l) 0 ≡ y
+getD-last [] y = refl
+getD-last (x ∷ l) y = getD-last l y
+
+-- what is left without the first of two parts
+pub drop-first : {A : Type 0} (l r : List A) → drop (length l) (l ++ r) ≡ r
+drop-first [] r = refl
+drop-first (x ∷ l) r = drop-first l r
+
+pub take-first : {A : Type 0} (l r : List A) → take (length l) (l ++ r) ≡ l
+take-first [] r = refl
+take-first {A} (x ∷ l) r = ap {B = List A} (λ k. x ∷ k) (take-first l r)
+
 -- arguments
 pub arg-more : (K L U Z : List ℕ) (e a : ℕ) → arg-of K U e ≡ some a → arg-of (K ++ L) (U ++ Z) e ≡ some a
 arg-more [] L U Z e a h = absurd (some-none h refl)
@@ -143,6 +160,12 @@ arg-last [] [] e a n h = rw (eqb-same e)
 arg-last [] (u ∷ U) e a n h = absurd (omega arith)
 arg-last (k ∷ K) [] e a n h = absurd (omega arith)
 arg-last (k ∷ K) (u ∷ U) e a n h = rw (eqb-diff e k (λ q. n (inl q))) (arg-last K U e a (λ i. n (inr i)) (omega arith))
+
+pub arg-skip : (C K G U : List ℕ) (e : ℕ) → (In e C → ⊥) → length G ≡ length C → arg-of (C ++ K) (G ++ U) e ≡ arg-of K U e
+arg-skip [] K [] U e n h = refl
+arg-skip [] K (u ∷ G) U e n h = absurd (omega arith)
+arg-skip (c ∷ C) K [] U e n h = absurd (omega arith)
+arg-skip (c ∷ C) K (u ∷ G) U e n h = rw (eqb-diff e c (λ q. n (inl q))) (arg-skip C K G U e (λ i. n (inr i)) (omega arith))
 
 pub or-mono : (a a′ b b′ : Option ℕ) (o : ℕ) → a′ ≡ a → ((e : ℕ) → b ≡ some e → b′ ≡ some e) → orElse a b ≡ some o
     → orElse a′ b′ ≡ some o

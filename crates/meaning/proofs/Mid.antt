@@ -15,8 +15,8 @@ use Rattle.definition.specs.Read.{mark, new-param, walk, settle, resolve}
 use Rattle.meaning.specs.Machine.{Task, look, finish, Conf, conf, open-param, find, visit, settle-top, turn, turns}
 use Rattle.meaning.specs.Path.{In}
 use Rattle.meaning.proofs.Maps.{same?, put-same, put-other, false-true, put-put, put-id}
-use Rattle.meaning.proofs.Lists.{in-cons, take-in, reverse-in, drop-in}
-use Rattle.meaning.proofs.Inv.{pending, Inv, pending-par, Work}
+use Rattle.meaning.proofs.Lists.{in-cons, take-in, reverse-in, drop-in, snds}
+use Rattle.meaning.proofs.Inv.{pending, Inv, pending-par, built-in, Work, Callers, Frame, frame}
 use Rattle.meaning.proofs.Growing.{grown}
 use Rattle.meaning.proofs.Settle.{Settled, settled}
 use Rattle.meaning.proofs.Reading.{Sound, Busy, busy-grow, Trail, walked, Begun, met-marked, Walked, begun-waiting, begun-working}
@@ -39,8 +39,9 @@ at-work v (finish x b ∷ ts) later = put b ((v, x) ∷ at-work v ts later b) (a
 
 -- the invariant without edges, ranges, and room, where op is at work and k of it are to be settled
 pub record Rest (g : Graph) (op : Work) (k : ℕ) (s : Form) : Type 0 where
+  pub caller : Callers
   pub kp : ℕ → List ℕ
-  pub inv : Inv g ⊥ s kp op
+  pub inv : Inv g (frame ⊥ caller) s kp op
   pub ranged : Ranged g s
   pub load : Load s k
 
@@ -72,8 +73,11 @@ module _ (g : Graph) (v : ℕ) (later : Work) (k : ℕ) where
     pub at-top : In (v, x) (pending g s (at-work v (finish x b ∷ ts) later) b)
     at-top = rw (h .sane .0, put-same b ((v, x) ∷ at-work v ts later b) (at-work v ts later)) (inl refl)
 
+    pub top-built : In x (h .rest .kp b ++ snds (pending g s (at-work v (finish x b ∷ ts) later) b))
+    top-built = pending-par g (frame ⊥ (h .rest .caller)) s (h .rest .kp) (at-work v (finish x b ∷ ts) later) (h .rest .inv) v b x at-top
+
     pub top-param : In x (s .params b)
-    top-param = pending-par g ⊥ s (h .rest .kp) (at-work v (finish x b ∷ ts) later) (h .rest .inv) v b x at-top
+    top-param = built-in g (frame ⊥ (h .rest .caller)) s (h .rest .kp) (at-work v (finish x b ∷ ts) later) (h .rest .inv) b x top-built
 
   pub looks-on : (ps : List ℕ) (ts : List Task) (n : ℕ) (s : Form) → ((p : ℕ) → In p ps → p < g .blocks) → Mid ts (length ps + n) s
       → Mid (map look ps ++ ts) n s
@@ -90,16 +94,26 @@ module _ (g : Graph) (G : Sound g) (B : Bounds g) (v : ℕ) (lv : v < length (g 
     abbrev op : Work
     op = at-work v ts later
 
+    abbrev F : Frame
+    F = frame ⊥ (h .rest .caller)
+
     met-now : (over : List ℕ) (c x : ℕ) → Trail g v s p over c → def s v c ≡ some x → Now g v later k (conf ts (x ∷ rs) (mark v x over s))
     met-now over c x tr e =
-        let m = met-marked g G v lv ⊥ p s (h .rest .kp) op (h .rest .inv) over c tr x e in
+        let m = met-marked g G v lv F p s (h .rest .kp) op (h .rest .inv) over c tr x e in
         let t = mark v x over s in
         let lx = def-below g s (h .rest .ranged) v c x e in
         let q = mark-is v x over s in
         let load = load-same s t (mark-somes v x over s) (ap (λ (f : Form). f .makes) q) (finishes ts k) (ap (λ (f : Form). f .next) q) (ap (λ (f : Form). f .zeros) q)
         (ap (λ (f : Form). f .pending) q) (h .rest .load) in (
           record {
-            rest = record { kp = h .rest .kp; inv = m .inv; ranged = mark-ranged g s (h .rest .ranged) v x over lx (m .grow); load = load };
+            rest = record {
+              caller = h .rest .caller;
+              kp = h .rest .kp;
+              inv = m .inv;
+              ranged = mark-ranged g s (h .rest .ranged) v x over lx
+                  (m .grow);
+              load = load;
+            };
             busy = busy-grow g v s t op (m .grow) (h .busy);
             sane = h .sane;
             fits = h .fits;
@@ -113,7 +127,7 @@ module _ (g : Graph) (G : Sound g) (B : Bounds g) (v : ℕ) (lv : v < length (g 
 
       -- with a new parameter, where ws waits and op′ is at work
       module _ (ws op′ : Work) (quiet : (b : ℕ) → g .sealed b ≡ true → ws b ≡ [])
-          (m : Begun g v ⊥ s (h .rest .kp) op′ p c ws (mark v (s .next) (before c over) (grown g s v c ws))) where
+          (m : Begun g v F s (h .rest .kp) op′ p c ws (mark v (s .next) (before c over) (grown g s v c ws))) where
         abbrev s₁ : Form
         s₁ = grown g s v c ws
 
@@ -128,6 +142,7 @@ module _ (g : Graph) (G : Sound g) (B : Bounds g) (v : ℕ) (lv : v < length (g 
 
         set-rest : (k′ : ℕ) → waiting ws + k′ ≡ suc (waiting (s .pending) + finishes ts k) → Rest g op′ k′ s₂
         set-rest k′ e = record {
+          caller = h .rest .caller;
           kp = h .rest .kp;
           inv = m .inv;
           ranged = mark-ranged g s₁ (grown-ranged g s (h .rest .ranged) v c ws lv lc (B .typed v lv) (h .rest .inv .aliased .fresh (s .next) (omega arith)) (m .grew) quiet)
@@ -139,7 +154,7 @@ module _ (g : Graph) (G : Sound g) (B : Bounds g) (v : ℕ) (lv : v < length (g 
       open-now : (z : Bool) → g .sealed c ≡ z → Now g v later k (open-param g v c x (before c over) ts rs (new-param g v c s) z)
       open-now false z =
           let ws = put c (s .pending c ++ (v, x) ∷ []) (s .pending) in
-          let m = begun-waiting g G v lv ⊥ p s (h .rest .kp) op (h .rest .inv) over c tr (h .busy) lc lack z in
+          let m = begun-waiting g G v lv F p s (h .rest .kp) op (h .rest .inv) over c tr (h .busy) lc lack z in
           let more = waiting-put (s .pending) c (s .pending c ++ (v, x) ∷ []) (le-trans lc (B .few)) in (
             record {
               rest = set-rest ws op quiet m (finishes ts k)
@@ -155,7 +170,7 @@ module _ (g : Graph) (G : Sound g) (B : Bounds g) (v : ℕ) (lv : v < length (g 
           quiet b e = put-other c (s .pending c ++ (v, x) ∷ []) (s .pending) b (λ q. false-true z (rw q at e)) ∙ h .rest .ranged .still b e
       open-now true z =
           let op′ = put c ((v, x) ∷ op c) op in
-          let m = begun-working g G v lv ⊥ p s (h .rest .kp) op (h .rest .inv) over c tr (h .busy) lc lack z in
+          let m = begun-working g G v lv F p s (h .rest .kp) op (h .rest .inv) over c tr (h .busy) lc lack z in
           let still = h .rest .ranged .still in (
             looks-on g v later k (g .preds c) (finish x c ∷ ts) (length rs) (mark v x (before c over) (new-param g v c s)) (λ q i. G .range c q i)
                 (record { rest = set-rest (s .pending) op′ still m (suc (finishes ts k)) (omega arith); busy = m .busy; sane = (z, h .sane); fits = (length rs, refl, h .fits) }),
@@ -182,6 +197,9 @@ module _ (g : Graph) (G : Sound g) (B : Bounds g) (v : ℕ) (lv : v < length (g 
     abbrev op₂ : Work
     op₂ = at-work v ts later
 
+    abbrev F₂ : Frame
+    F₂ = frame ⊥ (h .rest .caller)
+
     abbrev n₂ : ℕ
     n₂ = length (g .preds b)
 
@@ -195,8 +213,9 @@ module _ (g : Graph) (G : Sound g) (B : Bounds g) (v : ℕ) (lv : v < length (g 
     settle-now = (
       record {
         rest = record {
+          caller = h .rest .caller;
           kp = d .kp;
-          inv = subst (λ (f : Work). Inv g ⊥ t (d .kp) f) (put-put b (op₂ b) ((v, x) ∷ op₂ b) op₂ ∙ put-id b op₂) (d .inv);
+          inv = subst (λ (f : Work). Inv g F₂ t (d .kp) f) (put-put b (op₂ b) ((v, x) ∷ op₂ b) op₂ ∙ put-id b op₂) (d .inv);
           ranged = rng .0;
           load = load-settle s t (settle-somes g b x qs s left) (adds .makes) (finishes ts k) (adds .next) (adds .zeros) (adds .pending) (h .rest .load);
         };
@@ -213,13 +232,14 @@ module _ (g : Graph) (G : Sound g) (B : Bounds g) (v : ℕ) (lv : v < length (g 
         adds : Added s (settle g b x (reverse (take (length (g .preds b)) rs)) s .1)
         adds = settle-adds g b x qs s left
 
-        d : Settled g ⊥ s (put b (op₂ b) (put b ((v, x) ∷ op₂ b) op₂)) x (settle g b x (reverse (take (length (g .preds b)) rs)) s)
-        d = settled g ⊥ s (h .rest .kp) (put b ((v, x) ∷ op₂ b) op₂) (h .rest .inv) v b x (op₂ b) (h .sane .0) (put-same b ((v, x) ∷ op₂ b) op₂) qs
+        d : Settled g F₂ s (put b (op₂ b) (put b ((v, x) ∷ op₂ b) op₂)) x (settle g b x (reverse (take (length (g .preds b)) rs)) s)
+        d = settled g F₂ s (h .rest .kp) (put b ((v, x) ∷ op₂ b) op₂) (h .rest .inv) v b x (op₂ b) (h .sane .0) (put-same b ((v, x) ∷ op₂ b) op₂) qs
             (omega (arith, length-reverse (take n₂ rs), length-take n₂ rs, h .fits .1)) (λ z. absurd z) (G .nodup b)
 
         rng : Ranged g (settle g b x (reverse (take (length (g .preds b)) rs)) s .1)
             × (settle g b x (reverse (take (length (g .preds b)) rs)) s .0 < settle g b x (reverse (take (length (g .preds b)) rs)) s .1 .next)
-        rng = settle-ranged g s (h .rest .ranged) b x (B .shut b (h .sane .0)) (h .rest .inv .listed .pars b x (top-param g v later k x b ts (length rs) s h)) (h .rest .inv .aliased .fresh (s .next) (omega arith)) qs
+        rng = settle-ranged g s (h .rest .ranged) b x (B .shut b (h .sane .0))
+            (h .rest .inv .listed .pars b x (top-built g v later k x b ts (length rs) s h)) (h .rest .inv .aliased .fresh (s .next) (omega arith)) qs
             (λ r i. low r (take-in n₂ rs r (reverse-in (take n₂ rs) r i)))
 
         busy : (c : ℕ) → (c ≡ b) ⊎ (c ≢ b) → (put b ((v, x) ∷ op₂ b) op₂ c ≡ []) ⊎ ((u : ℕ) × (s .entry v c ≡ some u))

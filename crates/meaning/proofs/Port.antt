@@ -2,9 +2,9 @@
 -- each cell is written. Assumes nothing.
 use Prim.Native.Nat.{ℕ, zero, suc, _<_, _≤_}
 use mathlib.Core.Path.{_≡_, refl, sym, ap, _∙_, subst}
-use mathlib.Core.Bool.{true}
-use mathlib.Core.List.{List, [], _∷_}
-use lib.ListN.{length, getD}
+use mathlib.Core.Bool.{true, false}
+use mathlib.Core.List.{List, [], _∷_, _++_, append-nil}
+use lib.ListN.{length, getD, length-append}
 use native.Mathlib.Omega.{arith}
 use native.Mathlib.Nat.{le-trans}
 use Rattle.entity.specs.Limits.{value-room, limits, param-room, zero-room}
@@ -14,20 +14,42 @@ use Rattle.definition.specs.Session.{State}
 use Rattle.meaning.specs.Machine.{Task, finish, Conf, conf, turn, turns}
 use Rattle.meaning.specs.Path.{In}
 use Rattle.meaning.proofs.Maps.{put-same}
-use Rattle.meaning.proofs.Inv.{Work}
+use Rattle.meaning.proofs.Inv.{pending, Work}
 use Rattle.meaning.proofs.Reading.{Sound}
+use Rattle.meaning.proofs.Lists.{snds}
+use Rattle.meaning.proofs.Sealing.{idle}
 use Rattle.meaning.proofs.Machine.{Goes, there, on}
 use Rattle.meaning.proofs.Heights.{Within, Low, run-within}
 use Rattle.meaning.proofs.Fall.{left, turn-falls}
 use Rattle.meaning.proofs.Ranges.{Bounds}
 use Rattle.meaning.proofs.Load.{load-next}
-use Rattle.meaning.proofs.Mid.{at-work, finishes, top-param}
+use Rattle.meaning.proofs.Mid.{at-work, finishes, top-param, top-built}
 use Rattle.meaning.proofs.Rooms.{Moment, feed-room}
 use Rattle.meaning.proofs.Sure.{Sure}
 
 -- room for a made value
 pub make-room : (t : State) → Sure t → t .form .makes < limits .made → t .form .next < value-room limits
 make-room t h l = omega (arith, h .safe .load .values, l)
+
+-- room for a caller's parameter on b, where it is not refused: so far b has no others than the caller's
+pub own-room : (t : State) → Sure t → (b : ℕ) → t .graph .sealed b ≡ false → t .form .pending b ≡ [] → t .form .owns b < limits .own-params
+    → (length (t .form .params b) ≡ t .form .owns b) × (length (t .form .params b) < param-room limits)
+own-room t h b unsealed idle-b room =
+    let w = h .whole in
+    let none : w .kp b ++ snds (pending (t .graph) (t .form) idle b) ≡ [] = rw (w .inv .listed .bare b unsealed, unsealed, idle-b) refl in
+    let n : length (t .form .params b) ≡ t .form .owns b =
+    ap length (w .inv .listed .split b ∙ ap (λ (l : List ℕ). w .caller .params b ++ l) none ∙ append-nil (w .caller .params b)) ∙ w .inv .owned .count b in
+    (n, omega (arith, n, room))
+
+-- room for a caller's argument at a destination to d, where it is not refused, and a caller's parameter in its place
+pub give-room : (t : State) → Sure t → (p i d : ℕ) → length (t .form .args p i) < t .form .owns d
+    → (length (t .form .args p i) < param-room limits) × (length (t .form .args p i) < length (t .form .params d))
+give-room t h p i d l =
+    let w = h .whole in
+    let n = w .inv .owned .count d in (
+      omega (arith, l, n, w .inv .owned .few d),
+      omega (arith, l, n, ap length (w .inv .listed .split d), length-append (w .caller .params d) (w .kp d ++ snds (pending (t .graph) (t .form) idle d))),
+    )
 
 module _ (g : Graph) (v : ℕ) where
   pub idle-turn : (c : Conf) → c .tasks ≡ [] → turn g v (c .tasks) (c .results) (c .form) ≡ c
@@ -83,14 +105,17 @@ module _ (g : Graph) (G : Sound g) (B : Bounds g) (v : ℕ) (lv : v < length (g 
       let op = at-work v ts later in
       let a = load-next s (suc (finishes ts k)) (h .rest .load) in
       let i = top-param g v later k x b ts (length rs) s h in
+      let j = top-built g v later k x b ts (length rs) s h in
       record {
         block = B .shut b (h .sane .0);
         closed = h .sane .0;
-        value = h .rest .inv .listed .pars b x i .below;
+        value = h .rest .inv .listed .pars b x j .below;
         param = i;
         taken = omega (arith, h .fits .1);
         next = omega (arith, a .0);
         zeros = omega (arith, a .1);
-        args = λ p j ip lt q. le-trans
-            (feed-room g (put b ((v, x) ∷ op b) op) (suc (finishes ts k)) s (h .rest) b v x (op b) (h .sane .0) (put-same b ((v, x) ∷ op b) op) p j ip lt q) (B .vars);
+        args = λ p j ip lt q.
+            let f = feed-room g (put b ((v, x) ∷ op b) op) (suc (finishes ts k)) s (h .rest) b v x (op b) (h .sane .0)
+            (put-same b ((v, x) ∷ op b) op) p j ip lt q in
+            omega (arith, f, B .vars);
       }

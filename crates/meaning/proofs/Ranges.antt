@@ -13,15 +13,15 @@ use native.Mathlib.Nat.{le-trans}
 use Rattle.entity.specs.Limits.{limits}
 use Rattle.entity.specs.Types.{type-count}
 use Rattle.definition.specs.Base.{put, put₂, orElse, every, has, without}
-use Rattle.definition.specs.Form.{Graph, Form, Info, param, nought, def, with-args, with-entry, made, with-makes, Sort}
+use Rattle.definition.specs.Form.{Graph, Form, Info, param, nought, def, with-args, with-params, with-owns, with-entry, made, caller, with-makes, Sort}
 use Rattle.definition.specs.Read.{Got, resolve, follow, type-of, mark-one, mark, alias, is-dest, feed, feed-all, settle-left, settle, place-block, make, write}
 use Rattle.meaning.specs.Path.{In}
 use Rattle.meaning.specs.Stored.{Nodup}
 use Rattle.meaning.proofs.Causing.{Caused, new-caused, entered-caused, wider-caused, aliased-caused}
 use Rattle.meaning.proofs.Growing.{grown}
-use Rattle.meaning.proofs.Maps.{same?, put-same, put-other, put-at, put₂-at, false-true, put₂-is}
+use Rattle.meaning.proofs.Maps.{same?, put-same, put-other, put-at, put₂-at, put₂-other, here?, false-true, put₂-is}
 use Rattle.meaning.proofs.Lists.{nodup-snoc, in-cases, without-in, has-in, in-one, map-in}
-use Rattle.meaning.proofs.Inv.{Grow, Param, nought-param, Work}
+use Rattle.meaning.proofs.Inv.{Grow, Param, nought-param, caller-param, Work}
 
 -- the graph: its counts of blocks, types, branch marks, destinations, sealed marks
 pub record Bounded (n : ℕ) (ts : List ℕ) (br : ℕ → Bool) (ds : ℕ → List ℕ) (sl : ℕ → Bool) : Type 0 where
@@ -185,6 +185,40 @@ module _ (g : Graph) (s : Form) (h : Ranged g s) where
 
       made-nought : _≡_ {A = Sort} made nought → ⊥
       made-nought q = let z : _≡_ {A = ℕ} 0 1 = cc in omega arith
+
+  -- a caller's parameter of b, where ps are the parameters and os the counts afterwards
+  pub own-ranged : (m y b : ℕ) (ps : ℕ → List ℕ) (os : ℕ → ℕ) → b < g .blocks → y < type-count → s .target (s .next) ≡ s .next
+      → Ranged g (with-owns (with-params (make caller y b (with-makes s m)) ps) os)
+  own-ranged m y b ps os lb ly fresh = record {
+    valued = valued-more (record { sort = caller; type = y; home = b }) lb ly (s .target) (closed-more fresh);
+    recorded = recorded-more (suc (s .next)) (omega arith);
+    logs = h .logs;
+    caused = new-caused (h .caused) (record { sort = caller; type = y; home = b }) (λ q. absurd (caller-param refl q)) (λ q. absurd (caller-nought q));
+    still = h .still;
+  }
+    where
+      caller-nought : _≡_ {A = Sort} caller nought → ⊥
+      caller-nought q = let z : _≡_ {A = ℕ} 0 1 = cc in omega arith
+
+  -- an argument x
+  pub give-ranged : (p i x : ℕ) → x < s .next → Ranged g (with-args s (put₂ p i (s .args p i ++ x ∷ []) (s .args)))
+  give-ranged p i x lx = record {
+    valued = h .valued;
+    recorded = record {
+      entries = h .recorded .entries;
+      owns = h .recorded .owns;
+      passed = λ q j a k. elim (here? q p j i) [
+        | inl e ↦ elim (in-cases a (s .args p i) (x ∷ []) (rw (put₂-at p i (s .args p i ++ x ∷ []) (s .args) q j (e .0) (e .1)) at k)) [
+          | inl u ↦ h .recorded .passed p i a u
+          | inr u ↦ rw (in-one a x u) lx
+        ]
+        | inr n ↦ h .recorded .passed q j a (rw (put₂-other p i (s .args p i ++ x ∷ []) (s .args) q j n) at k)
+      ];
+    };
+    logs = h .logs;
+    caused = h .caused;
+    still = h .still;
+  }
 
   pub write-ranged : (v b x : ℕ) → v < length (g .types) → b < g .blocks → x < s .next → Ranged g (write v b x s)
   write-ranged v b x lv lb lx = record {

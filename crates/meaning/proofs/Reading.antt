@@ -15,7 +15,7 @@ use Rattle.definition.specs.Read.{read-past, read-on, read, wait}
 use Rattle.meaning.specs.Path.{In}
 use Rattle.meaning.specs.Stored.{Nodup}
 use Rattle.meaning.proofs.Maps.{same?, put-same, put-other, eqb-same, eqb-diff, some-inj, put₂-at, put₂-other, some-none, or-none, put-put, put-id}
-use Rattle.meaning.proofs.Inv.{Grow, grow-refl, grow-trans, def-grow, pending, Inv, mark-inv, mark-grow, Work}
+use Rattle.meaning.proofs.Inv.{Grow, grow-refl, grow-trans, def-grow, pending, Inv, mark-inv, mark-grow, Work, Frame}
 use Rattle.meaning.proofs.Keeping.{Results, results-length}
 use Rattle.meaning.proofs.Growing.{grown, grown-grow, grown-inv}
 use Rattle.meaning.proofs.Settle.{Settled, settled}
@@ -67,7 +67,7 @@ module _ (g : Graph) (v : ℕ) where
     | inr n ↦ rw (eqb-diff c e n) (h .0, h .1, (h .2 .0, h .2 .1, trail-before s (h .2 .0) e l (h .2 .2)))
   ]
 
-  module _ (E : Type 0) where
+  module _ (E : Frame) where
     pub record Read (s : Form) (op : Work) (b : ℕ) (r : Got) : Type 0 where
       pub kp : ℕ → List ℕ
       pub inv : Inv g E (r .1) kp op
@@ -141,7 +141,7 @@ module _ (g : Graph) (G : Sound g) (v : ℕ) where
           to (some x) q = record { trail = (refl, e, (p, u, refl)); low = lp; met = λ y i. q ∙ i; unmet = λ i. absurd (some-none refl i) }
           to none q = let w = below p lp q in record { trail = (refl, e, (p, u, w .trail)); low = w .low; met = w .met; unmet = w .unmet }
 
-  pub filled : (E : Type 0) (n : ℕ) (rec : ℕ → Form → Got) → Reads g v E n rec
+  pub filled : (E : Frame) (n : ℕ) (rec : ℕ → Form → Got) → Reads g v E n rec
       → (b x : ℕ) (ws : List (ℕ × ℕ)) (s : Form) (kp : ℕ → List ℕ) (op : Work)
       → g .sealed b ≡ true → op b ≡ (v, x) ∷ ws → Inv g E s kp op → Busy g v s op → lacks v s (g .blocks) < n
       → Settled g E s (put b ws op) x (fill rec g b x s)
@@ -151,7 +151,7 @@ module _ (g : Graph) (G : Sound g) (v : ℕ) where
       let done = settled g E (q .1) (all .kp) op (all .inv) v b x ws seal at (q .0) (results-length v (q .1) (g .preds b) (q .0) (all .results)) (λ _. all .results) (G .nodup b) in
       record { kp = done .kp; inv = done .inv; grow = grow-trans s (q .1) (settle g b x (q .0) (q .1) .1) (all .grow) (done .grow); alike = done .alike }
 
-module _ (g : Graph) (G : Sound g) (v : ℕ) (lv : v < length (g .types)) (E : Type 0) where
+module _ (g : Graph) (G : Sound g) (v : ℕ) (lv : v < length (g .types)) (E : Frame) where
   pub marked : (s₀ s : Form) (kp : ℕ → List ℕ) (op : Work) (x e : ℕ) → Inv g E s kp op
       → ((w c : ℕ) → s .own w c ≡ s₀ .own w c)
       → ((c : ℕ) → def s₀ v c ≡ none → (u : ℕ) → s .entry v c ≡ some u → u ≡ x) → def s v e ≡ some x

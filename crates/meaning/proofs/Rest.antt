@@ -24,7 +24,7 @@ use Rattle.meaning.proofs.Load.{waiting-put}
 use Rattle.meaning.proofs.Ranges.{Bounds}
 use Rattle.meaning.proofs.Lacking.{all-fewer}
 use Rattle.meaning.proofs.Mid.{Now, looks-on, goes-now}
-use Rattle.meaning.proofs.Inv.{Work}
+use Rattle.meaning.proofs.Inv.{Work, frame, Later, later-refl, later-trans, later-grow}
 
 module _ (g : Graph) (G : Sound g) (B : Bounds g) where
   -- the parameter at work is known
@@ -54,10 +54,15 @@ module _ (g : Graph) (G : Sound g) (B : Bounds g) where
   -- a use
   pub read-rest : (v : ℕ) (lv : v < length (g .types)) (b : ℕ) (s : Form) → b < g .blocks → Rest g idle 0 s
       → Rest g idle 0 (read (depth g) g v b s .1) × (read (depth g) g v b s .0 < read (depth g) g v b s .1 .next)
-      × (s .next ≤ read (depth g) g v b s .1 .next)
+      × Later s (read (depth g) g v b s .1)
   read-rest v lv b s lb h =
-      let e = goes-now g G B v lv idle 0 (does g G v (depth g) b s lb (shallow v s g) [] []) (record { rest = h; busy = λ c z. inl refl; sane = (lb, tt); fits = tt }, λ r i. absurd i) in
-      (e .0 .rest, e .1 _ (inl refl), reads g G v lv ⊥ (depth g) b s (h .kp) idle lb (h .inv) (λ c z. inl refl) (shallow v s g) .grow .more)
+      let e = goes-now g G B v lv idle 0 (does g G v (depth g) b s lb (shallow v s g) [] [])
+      (record { rest = h; busy = λ c z. inl refl; sane = (lb, tt); fits = tt }, λ r i. absurd i) in (
+        e .0 .rest,
+        e .1 _ (inl refl),
+        later-grow s (read (depth g) g v b s .1)
+            (reads g G v lv (frame ⊥ (h .caller)) (depth g) b s (h .kp) idle lb (h .inv) (λ c z. inl refl) (shallow v s g) .grow),
+      )
 
   -- the first pending variable
   pub next-rest : (b : ℕ) → g .sealed b ≡ true → (w : ℕ × ℕ) (ws : List (ℕ × ℕ)) (s : Form)
@@ -96,8 +101,9 @@ module _ (g : Graph) (G : Sound g) (B : Bounds g) (b : ℕ) (lb : b < g .blocks)
   -- the mark alone: what waited is at work
   pub mark-rest : (s : Form) → Rest g idle 0 s → Rest (mark-sealed g b) (put b (s .pending b) idle) (length (s .pending b)) (set-pending b [] s)
   mark-rest s h = record {
+    caller = h .caller;
     kp = h .kp;
-    inv = marked-inv g ⊥ s (h .kp) (h .inv) b unsealed;
+    inv = marked-inv g (frame ⊥ (h .caller)) s (h .kp) (h .inv) b unsealed;
     ranged = record {
       valued = h .ranged .valued;
       recorded = h .ranged .recorded;
@@ -114,32 +120,38 @@ module _ (g : Graph) (G : Sound g) (B : Bounds g) (b : ℕ) (lb : b < g .blocks)
         record { values = omega (arith, h .load .values, w, f); zeros = omega (arith, h .load .zeros, w, f); made = h .load .made };
   }
 
-  pub seal-rest : (s : Form) → Rest g idle 0 s → Rest (mark-sealed g b) idle 0 (seal-form g s b) × (s .next ≤ seal-form g s b .next)
+  pub seal-rest : (s : Form) → Rest g idle 0 s → Rest (mark-sealed g b) idle 0 (seal-form g s b) × Later s (seal-form g s b)
   seal-rest s h = (
     pending-rest (mark-sealed g b) G bounds-sealed b (put-same b true (g .sealed)) (s .pending b) (set-pending b [] s) (mark-rest s h),
-    sealed-one g ⊥ s (h .kp) (h .inv) b unsealed G .grow .more,
+    later-grow s (seal-form g s b) (sealed-one g (frame ⊥ (h .caller)) s (h .kp) (h .inv) b unsealed G .grow),
   )
 
 -- all blocks
-pub record All-rest (n k : ℕ) (r : Graph × Form) : Type 0 where
+pub record All-rest (s : Form) (k : ℕ) (r : Graph × Form) : Type 0 where
   pub calls : r .0 .call ≡ k
   pub sound : Sound (r .0)
   pub bounds : Bounds (r .0)
   pub rest : Rest (r .0) idle 0 (r .1)
-  pub more : n ≤ r .1 .next
+  pub later : Later s (r .1)
 
 pub each-rest : (bs : List ℕ) (g : Graph) (s : Form) → ((b : ℕ) → In b bs → b < g .blocks) → Sound g → Bounds g → Rest g idle 0 s
-    → All-rest (s .next) (g .call) (seal-each bs g s)
-each-rest [] g s lt G B h = record { calls = refl; sound = G; bounds = B; rest = h; more = omega arith }
+    → All-rest s (g .call) (seal-each bs g s)
+each-rest [] g s lt G B h = record { calls = refl; sound = G; bounds = B; rest = h; later = later-refl s }
 each-rest (b ∷ bs) g s lt G B h = by (g .sealed b) refl (each-rest bs g s (λ c i. lt c (inr i)) G B h)
     (λ e. each-rest bs (mark-sealed g b) (seal-form g s b) (λ c i. lt c (inr i)) G (bounds-sealed g G B b (lt b (inl refl)) e) (seal-rest g G B b (lt b (inl refl)) e s h .0))
   where
-    by : (z : Bool) → g .sealed b ≡ z → All-rest (s .next) (g .call) (seal-each bs g s)
-        → (g .sealed b ≡ false → All-rest (seal-form g s b .next) (g .call) (seal-each bs (mark-sealed g b) (seal-form g s b)))
-        → All-rest (s .next) (g .call)
+    by : (z : Bool) → g .sealed b ≡ z → All-rest s (g .call) (seal-each bs g s)
+        → (g .sealed b ≡ false → All-rest (seal-form g s b) (g .call) (seal-each bs (mark-sealed g b) (seal-form g s b)))
+        → All-rest s (g .call)
         (elim z as (λ _. Graph × Form) [ true ↦ seal-each bs g s | false ↦ seal-each bs (mark-sealed g b) (seal-form g s b) ])
     by true e was go-on = was
-    by false e was go-on = let k = go-on e in record { calls = k .calls; sound = k .sound; bounds = k .bounds; rest = k .rest; more = le-trans (seal-rest g G B b (lt b (inl refl)) e s h .1) (k .more) }
+    by false e was go-on = let k = go-on e in record {
+      calls = k .calls;
+      sound = k .sound;
+      bounds = k .bounds;
+      rest = k .rest;
+      later = later-trans s (seal-form g s b) (seal-each bs (mark-sealed g b) (seal-form g s b) .1) (seal-rest g G B b (lt b (inl refl)) e s h .1) (k .later);
+    }
 
 pub up-below : (n i b : ℕ) → In b (upFrom i n) → b < i + n
 up-below zero i b h = absurd h

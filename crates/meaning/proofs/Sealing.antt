@@ -3,7 +3,7 @@ use Prim.Native.Nat.{ℕ, _<_}
 use mathlib.Core.Path.{_≡_, refl, sym, ap, _∙_, subst}
 use mathlib.Core.Logic.{⊎-map, _≢_, inl, inr}
 use mathlib.Core.Bool.{true, false}
-use mathlib.Core.List.{List, [], _∷_}
+use mathlib.Core.List.{List, [], _∷_, append-nil}
 use lib.ListN.{length, getD}
 use native.Mathlib.Omega.{arith}
 use Rattle.definition.specs.Base.{put}
@@ -13,7 +13,7 @@ use Rattle.definition.specs.Session.{mark-sealed, seal-form}
 use Rattle.meaning.specs.Path.{In}
 use Rattle.meaning.proofs.Maps.{same?, put-same, put-other, false-true, put-id, put-put, put-at}
 use Rattle.meaning.proofs.Facts.{Edge, same, kept}
-use Rattle.meaning.proofs.Inv.{Grow, grow-refl, grow-trans, pending, Inv, Work}
+use Rattle.meaning.proofs.Inv.{Grow, grow-refl, grow-trans, pending, Inv, Work, Frame, cut}
 use Rattle.meaning.proofs.Lacking.{lacks, lacks-le}
 use Rattle.meaning.proofs.Reading.{Sound, filled, reads, Busy}
 
@@ -23,12 +23,12 @@ idle b = []
 pub shallow : (v : ℕ) (s : Form) (g : Graph) → lacks v s (g .blocks) < depth g
 shallow v s g = omega (arith, lacks-le v s (g .blocks))
 
-pub record Sealed (g : Graph) (E : Type 0) (s s′ : Form) : Type 0 where
+pub record Sealed (g : Graph) (E : Frame) (s s′ : Form) : Type 0 where
   pub kp : ℕ → List ℕ
   pub inv : Inv g E s′ kp idle
   pub grow : Grow s s′
 
-module _ (g : Graph) (E : Type 0) (G : Sound g) (b : ℕ) (seal : g .sealed b ≡ true) where
+module _ (g : Graph) (E : Frame) (G : Sound g) (b : ℕ) (seal : g .sealed b ≡ true) where
   -- the pending variables in turn
   all-settled : (ws : List (ℕ × ℕ)) (s : Form) (kp : ℕ → List ℕ) → Inv g E s kp (put b ws idle) → Sealed g E s (settle-pending g b ws s)
   all-settled [] s kp h = record { kp = kp; inv = subst (λ (f : Work). Inv g E s kp f) (put-id b idle) h; grow = grow-refl s }
@@ -49,7 +49,7 @@ module _ (g : Graph) (E : Type 0) (G : Sound g) (b : ℕ) (seal : g .sealed b �
       busy c e = elim (same? c b) [ inl q ↦ inr (w .1, rw q (h .pend (w .0) b (w .1) here .0)) | inr n ↦ inl (put-other b (w ∷ ws) idle c n) ]
 
 -- the mark alone: what waited is at work
-module _ (g : Graph) (E : Type 0) (s : Form) (kp : ℕ → List ℕ) (h : Inv g E s kp idle) (b : ℕ) (unsealed : g .sealed b ≡ false) where
+module _ (g : Graph) (E : Frame) (s : Form) (kp : ℕ → List ℕ) (h : Inv g E s kp idle) (b : ℕ) (unsealed : g .sealed b ≡ false) where
   abbrev g′ : Graph
   g′ = mark-sealed g b
 
@@ -72,7 +72,7 @@ module _ (g : Graph) (E : Type 0) (s : Form) (kp : ℕ → List ℕ) (h : Inv g 
   sealed-more : (c : ℕ) → g .sealed c ≡ true → g′ .sealed c ≡ true
   sealed-more c e = elim (same? c b) [ inl q ↦ put-at b true (g .sealed) c q | inr n ↦ else-sealed c n ∙ e ]
 
-  regraph : (w c e : ℕ) → Edge g s kp w c e → Edge g′ s′ kp w c e
+  regraph : (w c e : ℕ) → Edge g (cut E) s kp w c e → Edge g′ (cut E) s′ kp w c e
   regraph w c e (same z f) = same (sealed-more c z) f
   regraph w c e (kept z r x f) = kept (sealed-more c z) r x f
 
@@ -84,17 +84,26 @@ module _ (g : Graph) (E : Type 0) (s : Form) (kp : ℕ → List ℕ) (h : Inv g 
     pend = λ w c x i. h .pend w c x (rw (alike c) at i);
     listed = record {
       split = λ c. rw (alike c) (h .listed .split c);
-      pars = h .listed .pars;
-      nodup = h .listed .nodup;
+      pars = λ c x i. h .listed .pars c x (rw (alike c) at i);
+      nodup = λ c. rw (alike c) (h .listed .nodup c);
       bare = λ c e. elim (same? c b) [ inl q ↦ absurd (false-true e (put-at b true (g .sealed) c q)) | inr n ↦ h .listed .bare c (sym (else-sealed c n) ∙ e) ];
     };
+    owned = h .owned;
     passed = record {
       fed = λ p i lt sl ip. let d = getD (g .dests p) i 0 in elim (same? d b) [
-        | inl q ↦ ap length (h .passed .unfed p i (λ _ z _. false-true unsealed (rw q at z)) ∙ sym (h .listed .bare d (rw q unsealed)))
+        | inl q ↦ (
+          [],
+          h .passed .unfed p i (λ _ z _. false-true unsealed (rw q at z))
+              ∙ sym (append-nil (E .caller .args p i)),
+          ap length (sym (h .listed .bare d (rw q unsealed))),
+        )
         | inr n ↦ h .passed .fed p i lt (sym (else-sealed d n) ∙ sl) ip
       ];
       unfed = λ p i n. h .passed .unfed p i (λ lt sl ip. n lt (sealed-more (getD (g .dests p) i 0) sl) ip);
+      there = h .passed .there;
+      short = h .passed .short;
     };
+    gave = h .gave;
     aliased = h .aliased;
   }
 

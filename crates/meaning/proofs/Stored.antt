@@ -2,10 +2,10 @@
 -- Assumes nothing.
 use Prim.Native.Nat.{ℕ, zero, suc, _<_, _≤_}
 use mathlib.Core.Path.{_≡_, refl, sym, ap, _∙_, subst}
-use mathlib.Core.Logic.{inl, inr}
+use mathlib.Core.Logic.{_⊎_, inl, inr}
 use mathlib.Core.Bool.{Bool, true, false, _||_}
 use mathlib.Core.Option.{Option, none, some}
-use mathlib.Core.List.{List, [], _∷_}
+use mathlib.Core.List.{List, [], _∷_, _++_}
 use lib.Dec.{eqb, ltb}
 use lib.ListN.{length, getD}
 use native.Mathlib.Omega.{arith}
@@ -17,7 +17,7 @@ use Rattle.meaning.specs.Machine.{Conf}
 use Rattle.meaning.specs.Path.{In}
 use Rattle.meaning.specs.Stored.{Nodup, Stored}
 use Rattle.meaning.proofs.Maps.{false-true, ltb-no, ltb-yes, bool?}
-use Rattle.meaning.proofs.Lists.{has-in, getD-in}
+use Rattle.meaning.proofs.Lists.{has-in, getD-in, in-cases, snds}
 use Rattle.meaning.proofs.Reading.{Sound, Trail, walked, only-is}
 use Rattle.meaning.proofs.Sealing.{idle}
 use Rattle.meaning.proofs.Ranges.{Bounds}
@@ -25,13 +25,13 @@ use Rattle.meaning.proofs.Sums.{pigeon}
 use Rattle.meaning.proofs.Mid.{at-work, finishes, Rest}
 use Rattle.meaning.proofs.Sure.{sure}
 use Rattle.meaning.proofs.Rooms.{Moment, resting}
-use Rattle.meaning.proofs.Inv.{Work}
+use Rattle.meaning.proofs.Inv.{Work, pending}
 
 pub stored-of : (g : Graph) → Sound g → Bounds g → (op : Work) (k : ℕ) (s : Form) → Rest g op k s → Stored g s
 stored-of g G B op k s r = let h = r .inv in let R = r .ranged in record {
   entry = λ w b e q. let k = h .known w b e q in (k .0, k .1, R .recorded .entries w b e q);
   own = R .recorded .owns;
-  params = λ b x i. let r = h .listed .pars b x i in (subst (λ (j : ℕ). j < g .blocks) (r .home) (R .valued .homes x (r .below)), r .below);
+  params = λ b x i. params b x (in-cases x (r .caller .params b) (r .kp b ++ snds (pending g s op b)) (rw (h .listed .split b) at i));
   waits = waits;
   args = args;
   preds = λ b p i. (G .inside b p i, G .range b p i, G .names b p i);
@@ -48,6 +48,10 @@ stored-of g G B op k s r = let h = r .inv in let R = r .ranged in record {
   once = R .logs .once;
 }
   where
+    params : (b x : ℕ) → In x (r .caller .params b) ⊎ In x (r .kp b ++ snds (pending g s op b)) → (b < g .blocks) × (x < s .next)
+    params b x (inl i) = let k = r .inv .owned .each b x i in (subst (λ (j : ℕ). j < g .blocks) (k .2) (r .ranged .valued .homes x (k .0)), k .0)
+    params b x (inr i) = let k = r .inv .listed .pars b x i in (subst (λ (j : ℕ). j < g .blocks) (k .home) (r .ranged .valued .homes x (k .below)), k .below)
+
     waits : (b : ℕ) (w : ℕ × ℕ) → In w (s .pending b) → (w .0 < length (g .types)) × (b < g .blocks) × (w .1 < s .next)
     waits b w i = elim (bool? (g .sealed b)) [
       | inl e ↦ absurd (rw (r .ranged .still b e) at i)
@@ -60,7 +64,8 @@ stored-of g G B op k s r = let h = r .inv in let R = r .ranged in record {
     args p i a j = elim (bool? (ltb i (length (g .dests p)))) [
       | inl e ↦ let lt = ltb-yes i (length (g .dests p)) e in
           (B .branches p (B .from p (getD (g .dests p) i 0) (getD-in (g .dests p) i lt)), lt, r .ranged .recorded .passed p i a j)
-      | inr e ↦ let k = ltb-no i (length (g .dests p)) e in absurd (rw (r .inv .passed .unfed p i (λ l _ _. omega (arith, l, k))) at j)
+      | inr e ↦ let k = ltb-no i (length (g .dests p)) e in absurd
+          (rw (r .inv .passed .unfed p i (λ l _ _. omega (arith, l, k)) ∙ r .inv .passed .there p i k) at j)
     ]
 
 pub stored : (cs : List Call) → Stored (session cs .graph) (session cs .form)

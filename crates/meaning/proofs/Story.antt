@@ -1,7 +1,7 @@
 -- The form tells a block's own acts: each change of the form keeps what the acts before it said. Assumes nothing.
 use Prim.Native.Nat.{ℕ, _<_, _≤_}
 use mathlib.Core.Path.{_≡_, refl, sym, ap, _∙_, fun-ext}
-use mathlib.Core.Logic.{_≢_, _⊎_, inl, inr}
+use mathlib.Core.Logic.{_≢_, _⊎_, inl, inr, ⊎-map}
 use mathlib.Core.Option.{Option, some}
 use mathlib.Core.List.{List, [], _∷_, _++_, append-assoc}
 use native.Mathlib.Omega.{arith}
@@ -12,7 +12,7 @@ use Rattle.definition.specs.Read.{resolve}
 use Rattle.definition.specs.Session.{Done}
 use Rattle.meaning.specs.Path.{In, Act, makes, gives, uses, act, acts}
 use Rattle.meaning.proofs.Maps.{same?, put-other, put-at}
-use Rattle.meaning.proofs.Facts.{cur, Told}
+use Rattle.meaning.proofs.Facts.{cur, Told, Own-param}
 use Rattle.meaning.proofs.Inv.{Grow}
 use Rattle.meaning.proofs.Lists.{in-cases, in-one, in-cons}
 
@@ -119,7 +119,8 @@ apart : {a c : Act} → a ≡ c → act-num a ≢ act-num c → ⊥
 apart e n = n (ap act-num e)
 
 module _ (g : Graph) (s : Form) (root : (x : ℕ) → s .info x .sort ≡ made → resolve s x ≡ x) (b : ℕ) (all : List Act)
-    (own : (v x : ℕ) (q r : List Act) → all ≡ q ++ gives v x ∷ r → In (makes x) q ⊎ ((w : ℕ) × In (uses w x) q)) where
+    (own : (v x : ℕ) (q r : List Act) → all ≡ q ++ gives v x ∷ r
+    → (In (makes x) q ⊎ ((w : ℕ) × In (uses w x) q)) ⊎ Own-param g s b x) where
   pub told-all : (f : ℕ → Option ℕ) (ms us : List ℕ) (pre r : List Act) → all ≡ pre ++ r → Made-in pre ms → Used-in pre us → Tells s b f ms r
       → Told g s b f ms us r
   unfolding act-num
@@ -132,7 +133,7 @@ module _ (g : Graph) (s : Form) (root : (x : ℕ) → s .info x .sort ≡ made �
     told-all f (x ∷ ms) us (pre ++ makes x ∷ []) r (e ∙ sym (append-assoc pre (makes x ∷ []) r)) (made-makes pre ms x m) (used-other pre us (makes x) (λ w y q. apart q (omega arith)) u) (k .4),
   )
   told-all f ms us pre (gives v x ∷ r) e m u k = (
-    elim (own v x pre r e) [ inl i ↦ inl (m x i) | inr i ↦ inr (u (i .0) x (i .1)) ],
+    ⊎-map (⊎-map (m x) (λ i. u (i .0) x (i .1))) (λ o. o) (own v x pre r e),
     told-all (put v (some x) f) ms us (pre ++ gives v x ∷ []) r (e ∙ sym (append-assoc pre (gives v x ∷ []) r)) (made-other pre ms (gives v x) (λ y q. apart q (omega arith)) m)
         (used-other pre us (gives v x) (λ w y q. apart q (omega arith)) u) k,
   )

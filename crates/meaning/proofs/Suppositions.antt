@@ -3,34 +3,33 @@
 use Prim.Native.Nat.{ℕ, _<_}
 use mathlib.Core.Path.{_≡_, refl, sym, ap, _∙_, subst}
 use mathlib.Core.Logic.{_≢_, _⊎_, inl, inr}
-use mathlib.Core.Bool.{true}
+use mathlib.Core.Bool.{true, _||_}
 use mathlib.Core.Option.{Option, none, some}
 use mathlib.Core.List.{List, [], _∷_, _++_}
+use lib.Dec.{ltb}
+use lib.ListN.{length, getD}
 use native.Mathlib.Omega.{arith}
-use Rattle.definition.specs.Base.{put}
+use Rattle.definition.specs.Base.{put, has}
 use Rattle.definition.specs.Session.{Call, State, session}
-use Rattle.meaning.specs.Path.{Had, All-sealed, None-enters-0, All-declared, Own-values, In, Act, makes, gives, uses, acts, Supposed, Right}
-use Rattle.meaning.specs.Suppositions.{owned?, all-sealed?, none-enters-0?, all-declared?, own-values?, supposed?}
-use Rattle.meaning.proofs.Agree.{fork}
-use Rattle.meaning.proofs.Maps.{same?, put-same, put-at, put-other}
+use Rattle.meaning.specs.Path.{Had, All-sealed, None-enters-0, All-declared, Own-values, Own-counts, Own-sources, Own-args, In, Act, makes, gives, uses}
+use Rattle.meaning.specs.Path.{acts, given, callers, Supposed, Right}
+use Rattle.meaning.specs.Suppositions.{values, owned?, all-sealed?, none-enters-0?, all-declared?, own-values?, own-counts?, own-sources?, own-args?}
+use Rattle.meaning.specs.Suppositions.{supposed?}
+use Rattle.meaning.proofs.Agree.{fork, counter}
+use Rattle.meaning.proofs.Maps.{same?, put-same, put-at, put-other, bool?, ltb-yes, ltb-no}
+use Rattle.meaning.proofs.Lists.{getD-in}
 use Rattle.meaning.proofs.Facts.{cur}
 use Rattle.meaning.proofs.Story.{cur-append}
 use Rattle.meaning.proofs.Demand.{demand-3}
 use Rattle.meaning.proofs.Sure.{sure}
 use Rattle.meaning.proofs.Stored.{stored}
-use Rattle.meaning.proofs.Decide.{Decides, turned, itself, listed, denied, both, each, each-below}
+use Rattle.meaning.proofs.Decide.{Decides, turned, itself, listed, denied, both, either, equal, each, each-below}
 
 nil-cons : {A : Type 0} (us bs : List A) (a : A) → [] ≡ us ++ a ∷ bs → ⊥
 nil-cons [] bs a e = let z : _≡_ {A = ℕ} 0 1 = cc in omega arith
 nil-cons (u ∷ us) bs a e = let z : _≡_ {A = ℕ} 0 1 = cc in omega arith
 
--- each definition takes an own value: the values made or answered among some acts
-abbrev values : List Act → List ℕ
-values [] = []
-values (makes x ∷ r) = x ∷ values r
-values (gives v x ∷ r) = values r
-values (uses w x ∷ r) = x ∷ values r
-
+-- each definition takes an own value
 value-later : (x : ℕ) (a : Act) (r : List Act) → In x (values r) → In x (values (a ∷ r))
 value-later x (makes y) r i = inr i
 value-later x (gives v y) r i = i
@@ -103,12 +102,17 @@ owned l (gives w y ∷ r) = turned to from (both (listed y l) (owned l r))
         on (inl i) = i
         on (inr i) = absurd i
 
-own-acts : (all : List Act) → Decides (owned? [] all) ((v x : ℕ) (us bs : List Act) → all ≡ us ++ gives v x ∷ bs → Had x us)
-own-acts all = turned (λ h v x us bs q. value-had x us (on x us (h v x us bs q))) (λ h v x us bs q. inr (had-value x us (h v x us bs q))) (owned [] all)
+own-acts : (l : List ℕ) (all : List Act)
+    → Decides (owned? l all) ((v x : ℕ) (us bs : List Act) → all ≡ us ++ gives v x ∷ bs → Had x us ⊎ In x l)
+own-acts l all = turned (λ h v x us bs q. to x us (h v x us bs q)) (λ h v x us bs q. from x us (h v x us bs q)) (owned l all)
   where
-    on : (x : ℕ) (us : List Act) → ⊥ ⊎ In x (values us) → In x (values us)
-    on x us (inl i) = absurd i
-    on x us (inr i) = i
+    to : (x : ℕ) (us : List Act) → In x l ⊎ In x (values us) → Had x us ⊎ In x l
+    to x us (inl i) = inr i
+    to x us (inr i) = inl (value-had x us i)
+
+    from : (x : ℕ) (us : List Act) → Had x us ⊎ In x l → In x l ⊎ In x (values us)
+    from x us (inl h) = inr (had-value x us h)
+    from x us (inr i) = inl i
 
 -- what stands for a variable stays, or another value takes its place
 put-some : (f : ℕ → Option ℕ) (w x v o : ℕ) → f v ≡ some o → (e : ℕ) × (put w (some x) f v ≡ some e)
@@ -152,15 +156,45 @@ module _ (cs : List Call) where
   pub own-values-decided : Decides (own-values? t) (Own-values t)
   own-values-decided =
       turned (λ h b v x us bs q. h b (defined-below b v x us bs q) v x us bs q) (λ h b l. h b)
-      (each-below (λ b. own-acts (acts b (t .done))) (t .graph .blocks))
+      (each-below (λ b. own-acts (callers (t .form) b) (acts b (t .done))) (t .graph .blocks))
+
+  -- arguments are given at a destination, of a branch that is there
+  given-there : (p i x : ℕ) → In x (given p i (t .done)) → i < length (t .graph .dests p)
+  given-there p i x k = elim (bool? (ltb i (length (t .graph .dests p)))) [
+    | inl e ↦ ltb-yes i (length (t .graph .dests p)) e
+    | inr e ↦ let h = sure cs .whole in
+        let none = sym (h .gifts p i) ∙ h .inv .passed .there p i (ltb-no i (length (t .graph .dests p)) e) in
+        absurd (subst (λ (l : List ℕ). In x l) none k)
+  ]
+
+  branch-there : (p i : ℕ) → i < length (t .graph .dests p) → p < t .graph .blocks
+  branch-there p i lt = stored cs .dests p (getD (t .graph .dests p) i 0) (getD-in (t .graph .dests p) i lt) .0
+
+  own-counts-decided : Decides (own-counts? t) (Own-counts t)
+  own-counts-decided =
+      turned (λ h p i lt. h p (branch-there p i lt) i lt) (λ h p l. h p)
+      (each-below (λ p. each-below (λ i. equal (length (given p i (t .done))) (t .form .owns (getD (t .graph .dests p) i 0))) (length (t .graph .dests p)))
+      (t .graph .blocks))
+
+  sourced : (p x : ℕ) → Decides (has x (values (acts p (t .done))) || has x (callers (t .form) p)) (Had x (acts p (t .done)) ⊎ In x (callers (t .form) p))
+  sourced p x = either (turned (value-had x (acts p (t .done))) (had-value x (acts p (t .done))) (listed x (values (acts p (t .done)))))
+      (listed x (callers (t .form) p))
+
+  own-sources-decided : Decides (own-sources? t) (Own-sources t)
+  own-sources-decided =
+      turned (λ h p i x k. let lt = given-there p i x k in h p (branch-there p i lt) i lt x k) (λ h p l i lt x k. h p i x k)
+      (each-below (λ p. each-below (λ i. each (sourced p) (given p i (t .done))) (length (t .graph .dests p))) (t .graph .blocks))
+
+  pub own-args-decided : Decides (own-args? t) (Own-args t)
+  own-args-decided = both own-counts-decided own-sources-decided
 
   pub supposed-decided : Decides (supposed? t) (Supposed t)
   supposed-decided =
-      turned to (λ S. (((S .all-sealed, S .none-enters-0), S .all-declared), S .own-values))
-      (both (both (both all-sealed-decided none-enters-0-decided) all-declared-decided) own-values-decided)
+      turned to (λ S. ((((S .all-sealed, S .none-enters-0), S .all-declared), S .own-values), S .own-args))
+      (both (both (both (both all-sealed-decided none-enters-0-decided) all-declared-decided) own-values-decided) own-args-decided)
     where
-      to : ((All-sealed t × None-enters-0 t) × All-declared t) × Own-values t → Supposed t
-      to h = record { all-sealed = h .0 .0 .0; none-enters-0 = h .0 .0 .1; all-declared = h .0 .1; own-values = h .1 }
+      to : (((All-sealed t × None-enters-0 t) × All-declared t) × Own-values t) × Own-args t → Supposed t
+      to h = record { all-sealed = h .0 .0 .0 .0; none-enters-0 = h .0 .0 .0 .1; all-declared = h .0 .0 .1; own-values = h .0 .1; own-args = h .1 }
 
   pub supposed-sound : supposed? t ≡ true → Supposed t
   supposed-sound = supposed-decided .sound
@@ -174,3 +208,10 @@ fork-meets = refl
 
 pub fork-right : Right (session fork)
 fork-right = demand-3 fork (supposed-sound fork fork-meets)
+
+-- So it is with a loop that carries an index, in a caller's parameter.
+pub counter-meets : supposed? (session counter) ≡ true
+counter-meets = refl
+
+pub counter-right : Right (session counter)
+counter-right = demand-3 counter (supposed-sound counter counter-meets)

@@ -1,4 +1,4 @@
--- What holds after every list of calls, with no supposition: each of the fourteen kinds of call keeps it. Assumes nothing.
+-- What holds after every list of calls, with no supposition: each of the sixteen kinds of call keeps it. Assumes nothing.
 use Prim.Native.Nat.{ℕ, zero, suc, _<_, _≤_}
 use mathlib.Core.Path.{_≡_, refl, sym, _∙_}
 use mathlib.Core.Logic.{_⊎_, inl, inr}
@@ -11,28 +11,26 @@ use native.Mathlib.Omega.{arith}
 use native.Mathlib.Nat.{le-trans, not-suc-le-zero}
 use Rattle.entity.specs.Types.{type-count}
 use Rattle.entity.specs.Limits.{limits}
-use Rattle.definition.specs.Base.{put, has, upFrom}
-use Rattle.definition.specs.Form.{Graph, Form, made, with-makes, with-blocks, with-preds, with-declared, with-dests}
+use Rattle.definition.specs.Base.{put, put₂, has, upFrom}
+use Rattle.definition.specs.Form.{Graph, Form, made, caller, with-args, with-makes, with-blocks, with-preds, with-declared, with-dests}
 use Rattle.definition.specs.Read.{type-of, write, make, place-block}
 use Rattle.definition.specs.Session.{Call, Done, State, Reply, no, ok, refuse_when_else_, declared-anywhere, no-block, no-var, no-value, no-branch}
 use Rattle.definition.specs.Session.{declare-block, declare-var, make-value, define, use-var, new-branch, new-dest, add-pred, drop-pred, seal, seal-form}
-use Rattle.definition.specs.Session.{mark-sealed, seal-each, seal-all, define-answer, answered, reply, tick, after, step, run, empty, session}
+use Rattle.definition.specs.Session.{mark-sealed, seal-each, seal-all, define-answer, answered, own-param, give-arg, reply, tick, after, step, run, empty}
+use Rattle.definition.specs.Session.{session}
 use Rattle.meaning.specs.Path.{In}
 use Rattle.meaning.proofs.Maps.{same?, put-other, put-at, eqb-eq, false-true, some-none, ltb-no, leb-no, or-no, not-no, and-both, some-inj}
-use Rattle.meaning.proofs.Lists.{in-cases, in-one, put-in}
+use Rattle.meaning.proofs.Lists.{in-cases, in-one, put-in, getD-last}
+use Rattle.meaning.proofs.Inv.{Later, later-refl, later-trans, later-make}
 use Rattle.meaning.proofs.Sealing.{idle}
 use Rattle.meaning.proofs.Load.{Load, load-same}
 use Rattle.meaning.proofs.Whole.{Whole, Fine, fine}
 use Rattle.meaning.proofs.Demand.{Good, empty-good, after-good}
-use Rattle.meaning.proofs.Ranges.{Bounds, Ranged, write-ranged, make-ranged, wider-ranged, place-ranged}
+use Rattle.meaning.proofs.Ranges.{Bounds, Ranged, write-ranged, make-ranged, own-ranged, give-ranged, wider-ranged, place-ranged}
 use Rattle.meaning.proofs.Lacking.{all-fewer, all-le, write-somes}
 use Rattle.meaning.proofs.Mid.{Rest}
 use Rattle.meaning.proofs.Rest.{read-rest, seal-rest, bounds-sealed, each-rest, up-below}
 use Rattle.meaning.proofs.Sums.{sum-most}
-
-getD-last : (l : List ℕ) (y : ℕ) → getD (l ++ y ∷ []) (length l) 0 ≡ y
-getD-last [] y = refl
-getD-last (x ∷ l) y = getD-last l y
 
 -- the value that an accepted use answered
 answered-last : (ds : List Done) (d : Done) (i x : ℕ) → answered (ds ++ d ∷ []) i ≡ some x
@@ -54,12 +52,12 @@ pub record Safe (g : Graph) (s : Form) : Type 0 where
 -- one call
 module _ (g : Graph) (s : Form) (ds : List Done) (w : Whole ⊥ g s ds) (h : Safe g s) (c : Call) where
   rest : Rest g idle 0 s
-  rest = record { kp = w .kp; inv = w .inv; ranged = h .ranged; load = h .load }
+  rest = record { caller = w .caller; kp = w .kp; inv = w .inv; ranged = h .ranged; load = h .load }
 
   -- what a reply has to show: values stay, and a use answers one
   pub record Kept (n : ℕ) (g′ : Graph) (s′ : Form) : Type 0 where
     pub safe : Safe g′ s′
-    pub more : s .next ≤ s′ .next
+    pub later : Later s s′
     pub answer : c .kind ≡ 6 → n < s′ .next
     pub calls : g′ .call ≡ g .call
 
@@ -80,11 +78,11 @@ module _ (g : Graph) (s : Form) (ds : List Done) (w : Whole ⊥ g s ds) (h : Saf
 
   module _ (other : c .kind ≡ 6 → ⊥) where
     nothing : (n : ℕ) → Keep (ok n g s)
-    nothing n = record { safe = h; more = omega arith; answer = λ e. absurd (other e); calls = refl }
+    nothing n = record { safe = h; later = later-refl s; answer = λ e. absurd (other e); calls = refl }
 
-    keep : (n : ℕ) (g′ : Graph) (s′ : Form) → g′ .call ≡ g .call → Bounds g′ → Ranged g′ s′ → Load s′ 0 → s .next ≤ s′ .next
+    keep : (n : ℕ) (g′ : Graph) (s′ : Form) → g′ .call ≡ g .call → Bounds g′ → Ranged g′ s′ → Load s′ 0 → Later s s′
         → Keep (ok n g′ s′)
-    keep n g′ s′ q b r l up = record { safe = record { bounds = b; ranged = r; load = l }; more = up; answer = λ e. absurd (other e); calls = q }
+    keep n g′ s′ q b r l up = record { safe = record { bounds = b; ranged = r; load = l }; later = up; answer = λ e. absurd (other e); calls = q }
 
     keep-block : (x : ℕ) → Keep (declare-block g s x)
     keep-block x = check 4 (leb (limits .blocks) x) _ λ e₄. check 5 (ltb (g .blocks) x) _ λ e₅. choose (ltb x (g .blocks)) _ _ (λ _. nothing x)
@@ -109,8 +107,8 @@ module _ (g : Graph) (s : Form) (ds : List Done) (w : Whole ⊥ g s ds) (h : Saf
             r′ = wider-ranged g s (h .ranged) (with-blocks g (suc x)) up (omega arith) (omega arith) (λ b. refl)
 
             on : (z : Bool) → Keep (ok x (with-blocks g (suc x)) (cond z (place-block 0 s) s))
-            on true = keep x _ (place-block 0 s) refl b′ (place-ranged (with-blocks g (suc x)) s r′ 0 (omega arith)) (load-placed 0) (omega arith)
-            on false = keep x _ s refl b′ r′ (h .load) (omega arith)
+            on true = keep x _ (place-block 0 s) refl b′ (place-ranged (with-blocks g (suc x)) s r′ 0 (omega arith)) (load-placed 0) (later-refl s)
+            on false = keep x _ s refl b′ r′ (h .load) (later-refl s)
 
     keep-var : (x y : ℕ) → Keep (declare-var g s x y)
     keep-var x y =
@@ -131,7 +129,7 @@ module _ (g : Graph) (s : Form) (ds : List Done) (w : Whole ⊥ g s ds) (h : Saf
           branches = h .bounds .branches;
           shut = h .bounds .shut;
         })
-        (wider-ranged g s (h .ranged) _ (omega arith) (omega (arith, more)) (omega arith) (λ b. refl)) (h .load) (omega arith)
+        (wider-ranged g s (h .ranged) _ (omega arith) (omega (arith, more)) (omega arith) (λ b. refl)) (h .load) (later-refl s)
 
     keep-make : (x y : ℕ) → Keep (make-value g s x y)
     keep-make x y = check 6 (no-block g s x || leb type-count y) _ λ e₆. check 9 (g .branch x) _ λ _. check 4 (leb (limits .made) (s .makes)) _ λ e₄.
@@ -139,7 +137,8 @@ module _ (g : Graph) (s : Form) (ds : List Done) (w : Whole ⊥ g s ds) (h : Saf
         let t = make made y x (place-block x (with-makes s (suc (s .makes)))) in
         let f = all-fewer s t (λ u d k. k) in
         keep (s .next) g t refl (h .bounds) (make-ranged g s (h .ranged) (suc (s .makes)) y x (leb-no (g .blocks) x (o .0)) (leb-no type-count y (o .1)) (w .inv .aliased .fresh (s .next) (omega arith)))
-        (record { values = omega (arith, h .load .values, f); zeros = omega (arith, h .load .zeros, f); made = leb-no (limits .made) (s .makes) e₄ }) (omega arith)
+        (record { values = omega (arith, h .load .values, f); zeros = omega (arith, h .load .zeros, f); made = leb-no (limits .made) (s .makes) e₄ })
+        (later-make s made y x)
 
     keep-define : (v x b : ℕ) → Keep (define g s v x b)
     keep-define v x b = check 6 (no-var g s v || no-value g s x || no-block g s b) _ λ e₆. check 7 (not (eqb (s .info x .type) (type-of g v))) _ λ _.
@@ -147,7 +146,7 @@ module _ (g : Graph) (s : Form) (ds : List Done) (w : Whole ⊥ g s ds) (h : Saf
         let p = or-no (no-var g s v || no-value g s x) (no-block g s b) e₆ in
         let o = or-no (no-var g s v) (no-value g s x) (p .0) in
         keep x g (write v b x s) refl (h .bounds) (write-ranged g s (h .ranged) v b x (leb-no (length (g .types)) v (o .0)) (leb-no (g .blocks) b (p .1)) (leb-no (s .next) x (o .1)))
-        (load-same s (write v b x s) (write-somes s v b x) refl 0 refl refl refl (h .load)) (omega arith)
+        (load-same s (write v b x s) (write-somes s v b x) refl 0 refl refl refl (h .load)) (later-refl s)
 
     keep-define-at : (v b : ℕ) (o : Option ℕ) → Keep (define-answer g s v b o)
     keep-define-at v b none = tt
@@ -167,7 +166,8 @@ module _ (g : Graph) (s : Form) (ds : List Done) (w : Whole ⊥ g s ds) (h : Saf
           branches = λ p e. elim (same? p b) [ inl q ↦ rw q lb | inr n ↦ h .bounds .branches p (sym (put-other b true (g .branch) p n) ∙ e) ];
           shut = h .bounds .shut;
         })
-        (wider-ranged g (place-block b s) (place-ranged g s (h .ranged) b lb) _ (omega arith) (omega arith) (omega arith) (λ d. refl)) (load-placed b) (omega arith)
+        (wider-ranged g (place-block b s) (place-ranged g s (h .ranged) b lb) _ (omega arith) (omega arith) (omega arith) (λ d. refl)) (load-placed b)
+        (later-refl s)
 
     keep-dest : (p b : ℕ) → Keep (new-dest g s p b)
     keep-dest p b =
@@ -192,18 +192,47 @@ module _ (g : Graph) (s : Form) (ds : List Done) (w : Whole ⊥ g s ds) (h : Saf
           branches = h .bounds .branches;
           shut = h .bounds .shut;
         })
-        (wider-ranged g s (h .ranged) _ (omega arith) (omega arith) (omega arith) (λ d. refl)) (h .load) (omega arith)
+        (wider-ranged g s (h .ranged) _ (omega arith) (omega arith) (omega arith) (λ d. refl)) (h .load) (later-refl s)
 
     -- other predecessors
     keep-joined : (n b : ℕ) (ps : List ℕ) (dc : ℕ → Bool) → Keep (ok n (with-declared (with-preds g (put b ps (g .preds))) dc) s)
-    keep-joined n b ps dc = keep n _ s refl (h .bounds) (wider-ranged g s (h .ranged) _ (omega arith) (omega arith) (omega arith) (λ d. refl)) (h .load) (omega arith)
+    keep-joined n b ps dc = keep n _ s refl (h .bounds) (wider-ranged g s (h .ranged) _ (omega arith) (omega arith) (omega arith) (λ d. refl)) (h .load)
+        (later-refl s)
 
     keep-pred : (b p : ℕ) → Keep (add-pred g s b p)
-    keep-pred b p = check 6 (no-block g s b || no-branch g s p) _ λ _. check 8 (g .sealed b) _ λ _. check 13 (not (has b (g .dests p))) _ λ _. check 12 (has p (g .preds b)) _ λ _.
+    keep-pred b p = check 6 (no-block g s b || no-branch g s p) _ λ _. check 8 (g .sealed b) _ λ _. check 13 (not (has b (g .dests p))) _ λ _. check 12
+        (has p (g .preds b)) _ λ _.
         keep-joined _ b _ _
 
     keep-drop : (b p : ℕ) → Keep (drop-pred g s b p)
-    keep-drop b p = check 6 (no-block g s b || no-branch g s p) _ λ _. check 8 (g .sealed b) _ λ _. check 13 (not (has p (g .preds b))) _ λ _. keep-joined _ b _ (g .declared)
+    keep-drop b p = check 6 (no-block g s b || no-branch g s p) _ λ _. check 8 (g .sealed b) _ λ _. check 13
+        (not (has p (g .preds b))) _ λ _. keep-joined _ b _ (g .declared)
+
+    keep-own : (b ty : ℕ) → Keep (own-param g s b ty)
+    keep-own b ty =
+        check 6 (no-block g s b || leb type-count ty) _ λ e₆.
+        check 17 (g .sealed b || not (eqb (length (g .preds b)) 0) || not (eqb (length (s .pending b)) 0)) _ λ _.
+        check 18 (leb (limits .own-params) (s .owns b)) _ λ _. check 4 (leb (limits .made) (s .makes)) _ λ e₄.
+        let o = or-no (no-block g s b) (leb type-count ty) e₆ in
+        let t = make caller ty b (with-makes s (suc (s .makes))) in
+        let f = all-fewer s t (λ u d k. k) in
+        keep (s .next) g _ refl (h .bounds)
+        (own-ranged g s (h .ranged) (suc (s .makes)) ty b (put b (s .params b ++ s .next ∷ []) (s .params)) (put b (suc (s .owns b)) (s .owns))
+        (leb-no (g .blocks) b (o .0)) (leb-no type-count ty (o .1)) (w .inv .aliased .fresh (s .next) (omega arith)))
+        (record { values = omega (arith, h .load .values, f); zeros = omega (arith, h .load .zeros, f); made = leb-no (limits .made) (s .makes) e₄ })
+        (later-make s caller ty b)
+
+    keep-give : (p x i : ℕ) → Keep (give-arg g s p x i)
+    keep-give p x i =
+        let d = getD (g .dests p) i 0 in
+        check 6 (no-branch g s p || no-value g s x || leb (length (g .dests p)) i) _ λ e₆. check 11 (declared-anywhere g p) _ λ _.
+        check 18 (leb (s .owns d) (length (s .args p i))) _ λ _.
+        check 7 (not (eqb (s .info x .type) (s .info (getD (s .params d) (length (s .args p i)) 0) .type))) _ λ _.
+        let o = or-no (no-branch g s p || no-value g s x) (leb (length (g .dests p)) i) e₆ in
+        let lx = leb-no (s .next) x (or-no (no-branch g s p) (no-value g s x) (o .0) .1) in
+        let t = with-args s (put₂ p i (s .args p i ++ x ∷ []) (s .args)) in
+        keep (length (s .args p i)) g t refl (h .bounds) (give-ranged g s (h .ranged) p i x lx) (load-same s t (λ u d k. k) refl 0 refl refl refl (h .load))
+        (later-refl s)
 
     keep-ask : (b n : ℕ) → Keep (refuse_when_else_ 6 (no-block g s b) (ok n g s))
     keep-ask b n = check 6 (no-block g s b) _ λ _. nothing n
@@ -217,16 +246,17 @@ module _ (g : Graph) (s : Form) (ds : List Done) (w : Whole ⊥ g s ds) (h : Saf
     keep-all : Keep (seal-all g s)
     keep-all =
         let r = each-rest (upFrom 0 (g .blocks)) g s (λ b i. omega (arith, up-below (g .blocks) 0 b i)) (w .sound) (h .bounds) rest in
-        keep _ (seal-each (upFrom 0 (g .blocks)) g s .0) (seal-each (upFrom 0 (g .blocks)) g s .1) (r .calls) (r .bounds) (r .rest .ranged) (r .rest .load) (r .more)
+        keep _ (seal-each (upFrom 0 (g .blocks)) g s .0) (seal-each (upFrom 0 (g .blocks)) g s .1) (r .calls) (r .bounds) (r .rest .ranged) (r .rest .load)
+        (r .later)
 
   keep-use : (v b : ℕ) → Keep (use-var g s v b)
   keep-use v b = check 6 (no-var g s v || no-block g s b) _ λ e.
       let o = or-no (no-var g s v) (no-block g s b) e in
       let lv = leb-no (length (g .types)) v (o .0) in
       let r = read-rest g (w .sound) (h .bounds) v lv b s (leb-no (g .blocks) b (o .1)) rest in
-      record { safe = record { bounds = h .bounds; ranged = r .0 .ranged; load = r .0 .load }; more = r .2; answer = λ _. r .1; calls = refl }
+      record { safe = record { bounds = h .bounds; ranged = r .0 .ranged; load = r .0 .load }; later = r .2; answer = λ _. r .1; calls = refl }
 
-  -- the fourteen kinds
+  -- the sixteen kinds
   pub kept : (k : ℕ) → c .kind ≡ k → Keep (reply g s ds (c .x) (c .y) (c .z) k)
   kept zero e = tt
   kept (suc zero) e = keep-block (λ q. omega (arith, e, q)) (c .x)
@@ -243,7 +273,10 @@ module _ (g : Graph) (s : Form) (ds : List Done) (w : Whole ⊥ g s ds) (h : Saf
   kept (suc (suc (suc (suc (suc (suc (suc (suc (suc (suc (suc (suc zero)))))))))))) e = keep-all (λ q. omega (arith, e, q))
   kept (suc (suc (suc (suc (suc (suc (suc (suc (suc (suc (suc (suc (suc zero))))))))))))) e = keep-ask (λ q. omega (arith, e, q)) (c .x) _
   kept (suc (suc (suc (suc (suc (suc (suc (suc (suc (suc (suc (suc (suc (suc zero)))))))))))))) e = keep-ask (λ q. omega (arith, e, q)) (c .x) _
-  kept (suc (suc (suc (suc (suc (suc (suc (suc (suc (suc (suc (suc (suc (suc (suc k))))))))))))))) e = tt
+  kept (suc (suc (suc (suc (suc (suc (suc (suc (suc (suc (suc (suc (suc (suc (suc zero))))))))))))))) e = keep-own (λ q. omega (arith, e, q)) (c .x) (c .y)
+  kept (suc (suc (suc (suc (suc (suc (suc (suc (suc (suc (suc (suc (suc (suc (suc (suc zero)))))))))))))))) e =
+      keep-give (λ q. omega (arith, e, q)) (c .x) (c .y) (c .z)
+  kept (suc (suc (suc (suc (suc (suc (suc (suc (suc (suc (suc (suc (suc (suc (suc (suc (suc k))))))))))))))))) e = tt
 
 -- after some calls
 pub record Sure (t : State) : Type 0 where
@@ -275,7 +308,7 @@ module _ (t : State) (c : Call) (h : Sure t) where
     count = omega (arith, h .count, f .calls, length-append (t .done) (record { asked = c; code = 0; number = n } ∷ []));
     logged = λ z i. omega (arith, f .safe .ranged .logs .noted z i .0);
     answers = λ i x q. elim (answered-last (t .done) (record { asked = c; code = 0; number = n }) i x q) [
-      | inl o ↦ le-trans (h .answers i x o) (f .more)
+      | inl o ↦ le-trans (h .answers i x o) (f .later .more)
       | inr o ↦ rw (o .1) at (f .answer (eqb-eq (c .kind) 6 (and-both (eqb (c .kind) 6) true (o .0) .0)))
     ];
   }
@@ -285,6 +318,19 @@ module _ (t : State) (c : Call) (h : Sure t) where
       let r = reply (t .graph) (t .form) (t .done) (c .x) (c .y) (c .z) (c .kind) in
       let f = fine ⊥ (t .graph) (t .form) (t .done) (h .whole) c (c .kind) refl in
       after-sure r (after-good ⊥ t c (h .whole) r f) f (kept (t .graph) (t .form) (t .done) (h .whole) (h .safe) c (c .kind) refl)
+
+  after-later : (r : Reply) → Keep (t .graph) (t .form) (t .done) (h .whole) (h .safe) c r → Later (t .form) (after t c r .form)
+  after-later (no k) f = later-refl (t .form)
+  after-later (ok n g s) f = f .later
+
+  -- values stay, and what they are
+  pub step-later : Later (t .form) (step t c .form)
+  step-later = after-later (reply (t .graph) (t .form) (t .done) (c .x) (c .y) (c .z) (c .kind))
+      (kept (t .graph) (t .form) (t .done) (h .whole) (h .safe) c (c .kind) refl)
+
+pub run-later : (cs : List Call) (t : State) → Sure t → Later (t .form) (run t cs .form)
+run-later [] t h = later-refl (t .form)
+run-later (c ∷ cs) t h = later-trans (t .form) (step t c .form) (run (step t c) cs .form) (step-later t c h) (run-later cs (step t c) (step-sure t c h))
 
 pub run-sure : (cs : List Call) (t : State) → Sure t → Sure (run t cs)
 run-sure [] t h = h
@@ -324,3 +370,11 @@ empty-sure = record {
 -- of every session
 pub sure : (cs : List Call) → Sure (session cs)
 sure cs = run-sure cs empty empty-sure
+
+pub run-more : (cs ds : List Call) (t : State) → run t (cs ++ ds) ≡ run (run t cs) ds
+run-more [] ds t = refl
+run-more (c ∷ cs) ds t = run-more cs ds (step t c)
+
+-- from any call on
+pub from-then : (cs ds : List Call) → Later (session cs .form) (session (cs ++ ds) .form)
+from-then cs ds = rw (run-more cs ds empty) (run-later ds (session cs) (sure cs))

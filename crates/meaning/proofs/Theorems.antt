@@ -1,8 +1,8 @@
 -- What is proved of the definition, one theorem after the other. Their words are in specs/, and each proof cites the one that shows it. Assumes nothing.
-use Prim.Native.Nat.{ℕ, _<_, _≤_}
+use Prim.Native.Nat.{ℕ, _+_, _<_, _≤_}
 use mathlib.Core.Path.{_≡_}
 use mathlib.Core.Bool.{true}
-use mathlib.Core.List.{List}
+use mathlib.Core.List.{List, _++_}
 use mathlib.Core.Option.{some}
 use lib.ListN.{length, getD}
 use Rattle.entity.specs.Types.{unset-with}
@@ -10,28 +10,30 @@ use Rattle.definition.specs.Session.{Call, session, seal-each, answered}
 use Rattle.definition.specs.Resolve.{Resolved, targets}
 use Rattle.definition.specs.Read.{resolve}
 use Rattle.definition.specs.Base.{_∷ʳ_}
-use Rattle.meaning.specs.Path.{Supposed, None-late, In, Right}
+use Rattle.meaning.specs.Path.{Supposed, Counted, None-late, In, given, callers, Right, Mem, res, enter}
 use Rattle.meaning.specs.Bits.{Faithful-bits, Unset-shows, Zeros-typed}
 use Rattle.meaning.specs.Turns.{Scheduled}
 use Rattle.meaning.specs.Answers.{Answered}
 use Rattle.meaning.specs.Stored.{Stored}
 use Rattle.meaning.specs.Rooms.{Rooms}
+use Rattle.meaning.specs.Own.{Own-first}
 use Rattle.meaning.specs.Causes.{Once}
 use Rattle.meaning.specs.Enough.{Enough}
 use Rattle.meaning.specs.Holds.{Holds}
 use Rattle.meaning.specs.Suppositions.{supposed?}
 use Rattle.meaning.specs.Needed.{Demand-3-but}
-use Rattle.meaning.proofs.Rooms.{fed-always}
+use Rattle.meaning.proofs.Rooms.{fed-always, given-first, given-few, given-typed}
 use Rattle.meaning.proofs.Steady.{calls-count, logged}
 use Rattle.meaning.proofs.Turns.{scheduled, scheduled-all}
-use Rattle.meaning.proofs.Demand.{demand-3}
+use Rattle.meaning.proofs.Demand.{demand-3, counted-right}
 use Rattle.meaning.proofs.Bits.{shows, zeros-typed}
 use Rattle.meaning.proofs.Answers.{answered-one}
-use Rattle.meaning.proofs.Holds.{holds}
-use Rattle.meaning.proofs.Sure.{sure}
+use Rattle.meaning.proofs.Holds.{holds, still-caller}
+use Rattle.meaning.proofs.Sure.{sure, from-then}
 use Rattle.meaning.proofs.Suppositions.{supposed-sound, supposed-complete}
 use Rattle.meaning.proofs.Needed.{needed}
 use Rattle.meaning.proofs.Timely.{timely}
+use Rattle.meaning.proofs.Brought.{brought}
 
 -- ---- demand 3
 
@@ -53,13 +55,23 @@ unset-shows cs S = shows (session cs) (answers-hold-by-bits cs S)
 pub zeros-have-bits : (cs : List Call) → Zeros-typed (session cs)
 zeros-have-bits = zeros-typed
 
+-- Of the caller's arguments it is enough to suppose how many there are, wherever they come from.
+pub counts-suffice : (cs : List Call) → Counted (session cs) → Right (session cs)
+counts-suffice = counted-right
+
+-- On entry to a block each of its parameters, the caller's and the builder's, holds what its argument held before.
+pub parameters-hold : (cs : List Call) (W : Type 0) (null : ℕ → W) (b : ℕ) (us : List ℕ) (m : Mem W null (session cs)) (j : ℕ)
+    → j < length (session cs .form .params b) → j < length us
+    → enter W null (session cs) b us m .val (getD (session cs .form .params b) j 0) ≡ m .val (res W null (session cs) (getD us j 0))
+parameters-hold = brought
+
 -- Whether a session is as supposed is decided by looking at it.
 pub suppositions-decided : (cs : List Call)
     → (supposed? (session cs) ≡ true → Supposed (session cs)) × (Supposed (session cs) → supposed? (session cs) ≡ true)
 suppositions-decided cs = (supposed-sound cs, supposed-complete cs)
 
--- None of the four suppositions can be left out: without the one at k the claim is false.
-pub suppositions-needed : (k : ℕ) → 1 ≤ k → k ≤ 4 → Demand-3-but k → ⊥
+-- None of the five suppositions can be left out: without the one at k the claim is false.
+pub suppositions-needed : (k : ℕ) → 1 ≤ k → k ≤ 5 → Demand-3-but k → ⊥
 suppositions-needed = needed
 
 -- What had to be supposed too, of every list: nothing is defined in a block once its branch was declared, also where it was removed again.
@@ -93,6 +105,17 @@ rooms-suffice cs = holds cs .rooms
 pub numbers-named : (cs : List Call) → Stored (session cs .graph) (session cs .form)
 numbers-named cs = holds cs .stored
 
+-- A caller's parameters stand before the builder's and are never removed.
+pub callers-first : (cs : List Call) → Own-first (session cs .form)
+callers-first cs = holds cs .own
+
+pub callers-stay : (cs ds : List Call) (b x : ℕ) → In x (callers (session cs .form) b) → In x (callers (session (cs ++ ds) .form) b)
+callers-stay = still-caller
+
+-- Values stay what they are: sort, type and block are kept, also once a value is an alias.
+pub values-stay : (cs ds : List Call) (x : ℕ) → x < session cs .form .next → session (cs ++ ds) .form .info x ≡ session cs .form .info x
+values-stay cs ds = from-then cs ds .info
+
 -- A variable causes at most one parameter and one zero per block.
 pub causes-once : (cs : List Call) → Once (session cs .graph) (session cs .form)
 causes-once cs = holds cs .once
@@ -105,11 +128,26 @@ chains-resolve cs = holds cs .chains
 pub bounds-suffice : (cs : List Call) → Enough (session cs .graph) (session cs .form)
 bounds-suffice cs = holds cs .enough
 
--- Each destination of a declared predecessor of a sealed block has as many arguments as the block has parameters.
+-- Each destination of a declared predecessor of a sealed block has the arguments that it was given, and as many others as the block has builder's parameters.
 pub arguments-match : (cs : List Call) (p i : ℕ) → let g = session cs .graph in
+    let s = session cs .form in
     let b = getD (g .dests p) i 0 in
-    i < length (g .dests p) → g .sealed b ≡ true → In p (g .preds b) → length (session cs .form .args p i) ≡ length (session cs .form .params b)
+    i < length (g .dests p) → g .sealed b ≡ true → In p (g .preds b)
+    → length (s .args p i) + s .owns b ≡ length (given p i (session cs .done)) + length (s .params b)
 arguments-match = fed-always
+
+-- At each destination the arguments that it was given stand first, and they are no more than its block has caller's parameters.
+pub arguments-given : (cs : List Call) (p i : ℕ) → (r : List ℕ) × (session cs .form .args p i ≡ given p i (session cs .done) ++ r)
+arguments-given = given-first
+
+pub arguments-few : (cs : List Call) (p i : ℕ) → length (given p i (session cs .done)) ≤ session cs .form .owns (getD (session cs .graph .dests p) i 0)
+arguments-few = given-few
+
+-- Each of them has the type of the caller's parameter in its place.
+pub arguments-typed : (cs : List Call) (p i j : ℕ) → let s = session cs .form in
+    j < length (given p i (session cs .done))
+    → s .info (getD (s .args p i) j 0) .type ≡ s .info (getD (s .params (getD (session cs .graph .dests p) i 0)) j 0) .type
+arguments-typed = given-typed
 
 -- ---- calls and answers
 

@@ -7,7 +7,7 @@ use mathlib.Core.Bool.{Bool, true, false, cond, not, _&&_, _||_}
 use mathlib.Core.Option.{Option, none, some}
 use mathlib.Core.List.{List, [], _∷_, _++_}
 use lib.Dec.{eqb, ltb, leb}
-use lib.ListN.{length}
+use lib.ListN.{length, getD}
 use native.Mathlib.Omega.{arith}
 use Rattle.entity.specs.Types.{type-count}
 use Rattle.entity.specs.Limits.{limits}
@@ -179,7 +179,18 @@ module _ (g : Graph) (s : Form) (ds : List Done) (c : Call) where
       (λ n p. rw e (refl, refl)) _ _ (λ p. refl)
   marking (suc (suc (suc (suc (suc (suc (suc (suc (suc (suc (suc (suc (suc (suc zero)))))))))))))) e = check 6 (no-block g s (c .x)) _
       (omega arith) λ _. quiet (λ n p. rw e (refl, refl)) _ _ (λ p. refl)
-  marking (suc (suc (suc (suc (suc (suc (suc (suc (suc (suc (suc (suc (suc (suc (suc k))))))))))))))) e = omega arith
+  marking (suc (suc (suc (suc (suc (suc (suc (suc (suc (suc (suc (suc (suc (suc (suc zero))))))))))))))) e =
+      check 6 (no-block g s (c .x) || leb type-count (c .y)) _ (omega arith) λ _.
+      check 17 (g .sealed (c .x) || not (eqb (length (g .preds (c .x))) 0) || not (eqb (length (s .pending (c .x))) 0)) _ (omega arith) λ _.
+      check 18 (leb (limits .own-params) (s .owns (c .x))) _ (omega arith) λ _. check 4 (leb (limits .made) (s .makes)) _ (omega arith) λ _.
+      quiet (λ n p. rw e (refl, refl)) _ _ (λ p. refl)
+  marking (suc (suc (suc (suc (suc (suc (suc (suc (suc (suc (suc (suc (suc (suc (suc (suc zero)))))))))))))))) e =
+      let d = getD (g .dests (c .x)) (c .z) 0 in
+      let n = length (s .args (c .x) (c .z)) in
+      check 6 (no-branch g s (c .x) || no-value g s (c .y) || leb (length (g .dests (c .x))) (c .z)) _ (omega arith) λ _.
+      check 11 (declared-anywhere g (c .x)) _ (omega arith) λ _. check 18 (leb (s .owns d) n) _ (omega arith) λ _.
+      check 7 (not (eqb (s .info (c .y) .type) (s .info (getD (s .params d) n 0) .type))) _ (omega arith) λ _. quiet (λ n p. rw e (refl, refl)) _ _ (λ p. refl)
+  marking (suc (suc (suc (suc (suc (suc (suc (suc (suc (suc (suc (suc (suc (suc (suc (suc (suc k))))))))))))))))) e = omega arith
 
   -- a refused call neither declares nor defines
   refused-none : (k p : ℕ) (b : Bool) → k ≢ 0 → (b && eqb k 0 ≡ true) → ⊥

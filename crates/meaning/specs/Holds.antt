@@ -6,6 +6,7 @@ use Rattle.definition.specs.Read.{resolve}
 use Rattle.definition.specs.Resolve.{Resolved, targets}
 use Rattle.meaning.specs.Rooms.{Rooms}
 use Rattle.meaning.specs.Stored.{Stored}
+use Rattle.meaning.specs.Own.{Own-first}
 use Rattle.meaning.specs.Causes.{Once}
 use Rattle.meaning.specs.Enough.{Enough}
 
@@ -14,6 +15,8 @@ pub record Holds (g : Graph) (s : Form) : Type 0 where
   pub rooms : Rooms g s
   -- every number that a table holds names something that is there
   pub stored : Stored g s
+  -- a caller's parameters stand first and stay
+  pub own : Own-first s
   -- a variable causes at most one parameter and one zero per block
   pub once : Once g s
   -- every chain of aliases ends, and the definition resolves as the public resolving does

@@ -3,6 +3,7 @@ pub mod Bits
 pub mod Machine
 pub mod Rooms
 pub mod Stored
+pub mod Own
 pub mod Enough
 pub mod Causes
 pub mod Holds

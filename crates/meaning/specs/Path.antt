@@ -6,9 +6,9 @@ use mathlib.Core.Logic.{_⊎_}
 use mathlib.Core.Bool.{Bool, true, false, cond, _&&_, _||_}
 use mathlib.Core.List.{List, [], _∷_, _++_}
 use lib.Dec.{eqb}
-use lib.ListN.{length, getD}
+use lib.ListN.{length, getD, take}
 use Rattle.definition.specs.Base.{put}
-use Rattle.definition.specs.Form.{Sort, made, param, nought}
+use Rattle.definition.specs.Form.{Form, Sort, made, param, nought, caller}
 use Rattle.definition.specs.Read.{resolve, type-of}
 use Rattle.definition.specs.Session.{Call, Done, State, session}
 
@@ -23,7 +23,7 @@ pub data Act : Type 0 where
   gives : ℕ → ℕ → Act
   uses : ℕ → ℕ → Act
 
-abbrev pub if-so : Bool → Act → List Act
+abbrev pub if-so : {A : Type 0} → Bool → A → List A
 if-so true a = a ∷ []
 if-so false a = []
 
@@ -39,6 +39,18 @@ act b d =
 abbrev pub acts : ℕ → List Done → List Act
 acts b [] = []
 acts b (d ∷ ds) = act b d ++ acts b ds
+
+-- what an accepted call of kind 16 gives to the destination of branch p at place i, and all that it was given
+abbrev pub gift : ℕ → ℕ → Done → List ℕ
+gift p i d = if-so (eqb (d .code) 0 && eqb (d .asked .kind) 16 && eqb (d .asked .x) p && eqb (d .asked .z) i) (d .asked .y)
+
+abbrev pub given : ℕ → ℕ → List Done → List ℕ
+given p i [] = []
+given p i (d ∷ ds) = gift p i d ++ given p i ds
+
+-- the caller's parameters of block b: its first ones
+abbrev pub callers : Form → ℕ → List ℕ
+callers s b = take (s .owns b) (s .params b)
 
 -- an accepted declaration of branch p, and an accepted definition in block p
 abbrev pub declares : ℕ → Done → Bool
@@ -73,15 +85,35 @@ module _ (t : State) where
   abbrev pub None-late : Type 0
   None-late = On-time (t .done)
 
-  -- each definition takes a value made earlier in its own block, or answered to an earlier use there
+  -- each definition takes a value made earlier in its own block, or answered to an earlier use there, or a caller's parameter of its own block
   abbrev pub Own-values : Type 0
-  Own-values = (b v x : ℕ) (us bs : List Act) → acts b (t .done) ≡ us ++ gives v x ∷ bs → Had x us
+  Own-values = (b v x : ℕ) (us bs : List Act) → acts b (t .done) ≡ us ++ gives v x ∷ bs → Had x us ⊎ In x (callers (t .form) b)
+
+  -- each destination was given one argument for each caller's parameter of its block
+  abbrev pub Own-counts : Type 0
+  Own-counts = (p i : ℕ) → i < length (t .graph .dests p) → length (given p i (t .done)) ≡ t .form .owns (getD (t .graph .dests p) i 0)
+
+  -- each of them was made in the branching block, or answered to a use there, or is a caller's parameter of it
+  abbrev pub Own-sources : Type 0
+  Own-sources = (p i x : ℕ) → In x (given p i (t .done)) → Had x (acts p (t .done)) ⊎ In x (callers (t .form) p)
+
+  abbrev pub Own-args : Type 0
+  Own-args = Own-counts × Own-sources
 
   pub record Supposed : Type 0 where
     pub all-sealed : All-sealed
     pub none-enters-0 : None-enters-0
     pub all-declared : All-declared
     pub own-values : Own-values
+    pub own-args : Own-args
+
+  -- what demand 3 needs of them: wherever the caller's arguments come from, their parameters hold them
+  pub record Counted : Type 0 where
+    pub all-sealed : All-sealed
+    pub none-enters-0 : None-enters-0
+    pub all-declared : All-declared
+    pub own-values : Own-values
+    pub own-counts : Own-counts
 
 -- Words that values hold, and the unset value of each type.
 module _ (W : Type 0) (null : ℕ → W) (t : State) where
@@ -103,7 +135,7 @@ module _ (W : Type 0) (null : ℕ → W) (t : State) where
   do-acts fresh [] m = m
   do-acts fresh (a ∷ us) m = do-acts fresh us (do-act fresh a m)
 
-  -- the parameters take all arguments at once: each is read from the old values
+  -- the parameters, the caller's and the builder's, take all arguments at once: each is read from the old values
   abbrev pub bring : List ℕ → List ℕ → (ℕ → W) → ℕ → W
   bring [] us old y = old y
   bring (x ∷ xs) [] old y = old y
@@ -114,6 +146,7 @@ module _ (W : Type 0) (null : ℕ → W) (t : State) where
   zeroed b w type home nought = cond (eqb home b) (null type) w
   zeroed b w type home made = w
   zeroed b w type home param = w
+  zeroed b w type home caller = w
 
   abbrev pub zeros-set : ℕ → (ℕ → W) → ℕ → W
   zeros-set b old y = let i = t .form .info y in zeroed b (old y) (i .type) (i .home) (i .sort)
@@ -123,7 +156,7 @@ module _ (W : Type 0) (null : ℕ → W) (t : State) where
   enter b us m = record { val = zeros-set b (bring (t .form .params b) us (m .val)); var = m .var }
 
   -- A path from block 0: the blocks before, the block now, and what is held where its calls begin. `fresh n` is what the made values hold at the
-  -- visit that comes after n others, `any` what a value not yet set holds.
+  -- visit that comes after n others, `any` what a value not yet set holds, as do the caller's parameters of block 0.
   pub data At (fresh : ℕ → ℕ → W) (any : ℕ → W) : List ℕ → ℕ → Mem → Type 0 where
     start : At fresh any [] 0 (record { val = zeros-set 0 any; var = λ v. null (type-of (t .graph) v) })
     go : {bs : List ℕ} {p : ℕ} {m : Mem} (i : ℕ) → At fresh any bs p m → i < length (t .graph .dests p)

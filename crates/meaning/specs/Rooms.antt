@@ -1,7 +1,7 @@
 -- The rooms of the tables: how much of each a session can come to fill. Assumes nothing.
 use Prim.Native.Nat.{ℕ, _≤_}
 use lib.ListN.{length}
-use Rattle.entity.specs.Limits.{limits, value-room, zero-room, param-room, pred-room}
+use Rattle.entity.specs.Limits.{limits, value-room, zero-room, wait-room, param-room, pred-room}
 use Rattle.definition.specs.Base.{Block}
 use Rattle.definition.specs.Form.{Graph, Form}
 
@@ -14,7 +14,7 @@ pub record Rooms (g : Graph) (s : Form) : Type 0 where
   pub zeros : length (s .zeros) ≤ zero-room limits
   pub params : (b : Block) → length (s .params b) ≤ param-room limits
   pub args : (p : Block) (i : ℕ) → length (s .args p i) ≤ param-room limits
-  pub waits : (b : Block) → length (s .pending b) ≤ param-room limits
+  pub waits : (b : Block) → length (s .pending b) ≤ wait-room limits
   pub preds : (b : Block) → length (g .preds b) ≤ pred-room limits
   pub dests : (p : Block) → length (g .dests p) ≤ limits .dests
   pub placed : length (s .placed) ≤ pred-room limits

@@ -10,9 +10,9 @@ use Rattle.reader.specs.declared.Asked.{Asked}
 use Rattle.reader.specs.declared.Asked.the-variants.{Params, Args}
 use Rattle.reader.specs.Rows.{table-of}
 
--- the form's table to look in: parameters are its table 9, arguments its table 12 (layout/specs/Layout)
+-- the form's table to look in: parameters are its table 7, arguments its table 11 (layout/specs/Layout)
 abbrev pub table-number : Asked → ℕ
-table-number = table-of 7 10
+table-number = table-of 7 11
 
 -- that table, as the part of the form's cells that a host lends
 abbrev pub table-in : List ℕ → Asked → List ℕ

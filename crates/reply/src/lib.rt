@@ -38,6 +38,10 @@ pub const DECLARED_HERE: u32 = 12;
 
 pub const UNRELATED: u32 = 13;
 
+pub const BEGUN: u32 = 17;
+
+pub const OWN_FULL: u32 = 18;
+
 pub const LATE: u32 = 20;
 
 // A refused call has the number 0 and leaves the counts as they were.

@@ -26,7 +26,7 @@ use Rattle.meaning.proofs.Mid.{Rest, at-work, finishes}
 use Rattle.meaning.proofs.Port.{finish-room}
 use Rattle.meaning.proofs.Ranges.{Bounds, def-below}
 use Rattle.meaning.proofs.Reading.{Sound}
-use Rattle.meaning.proofs.Rooms.{Moment, waits-room, new-param-room, preds-room}
+use Rattle.meaning.proofs.Rooms.{Moment, waits-room, new-built-room, new-param-room, preds-room}
 use Rattle.meaning.proofs.Sealing.{idle}
 use Rattle.meaning.proofs.Steady.{Steady}
 use Rattle.meaning.proofs.Stored.{stored-now}
@@ -50,9 +50,11 @@ module _ (g : Graph) (G : Sound g) (B : Bounds g) (v : ℕ) (lv : v < length (g 
       opens : (d : ℕ) → d < g .blocks → def s v d ≡ none → Open g s ts d
       opens d ld lack =
           let a = load-param s k v d (r .load) (le-trans lv (B .vars)) (le-trans ld (B .few)) lack in
-          let q = new-param-room g op k s r v d lv (or-none (s .own v d) (s .entry v d) lack .1) in
+          let free = or-none (s .own v d) (s .entry v d) lack .1 in
+          let q = new-param-room g op k s r v d lv free in
+          let u = new-built-room g op k s r v d lv free in
           let w = waits-room g op k s r d in
-          record { next = omega (arith, a .0); params = le-trans q (B .vars); waits = omega (arith, w, q, B .vars); calls = calls d ld lack }
+          record { next = omega (arith, a .0); params = omega (arith, q, B .vars); waits = omega (arith, w, u, B .vars); calls = calls d ld lack }
 
   -- the calls of a block without a definition can still be scheduled
   calls-weigh : (d : ℕ) → d < g .blocks → def s v d ≡ none → suc (length (g .preds d)) ≤ calls-left g v s

@@ -38,7 +38,7 @@ use Rattle.ssa.specs.Run.{Under-way, Can-run, Ran}
 -- ---- what is left, read off the cells: each block without a definition could still schedule a call for each predecessor, and one to settle
 
 cell-weight : List ℕ → List ℕ → ℕ → ℕ → ℕ
-cell-weight gl fl v b = cond (eqb (getD fl (base form-sizes 9 + (v * limits .blocks + b)) 0) 0) (suc (getD gl (preds-start b) 0)) 0
+cell-weight gl fl v b = cond (eqb (getD fl (base form-sizes 10 + (v * limits .blocks + b)) 0) 0) (suc (getD gl (preds-start b) 0)) 0
 
 -- shut, like the sum
 pub to-come : List ℕ → List ℕ → ℕ → ℕ

@@ -16,7 +16,7 @@ use Rattle.definition.specs.Form.{Graph, Form}
 use Rattle.definition.specs.Read.{fill, read, depth, set-pending, settle-pending}
 use Rattle.definition.specs.Session.{mark-sealed, seal-form, seal-each}
 use Rattle.meaning.specs.Machine.{conf}
-use Rattle.meaning.proofs.Inv.{parts}
+use Rattle.meaning.proofs.Inv.{frame, parts}
 use Rattle.meaning.proofs.Lists.{snds, snds-length}
 use Rattle.meaning.proofs.Maps.{put-same, false-true}
 use Rattle.meaning.proofs.Mid.{Rest}
@@ -96,9 +96,9 @@ module _ {gl fl wl list : List ℕ} {c : Counts} {b n left : ℕ} {g : Graph} {s
         few = rooms-of (mark-sealed g b) (sound-then g s (h .steady) b (h .known) (h .unsealed)) (bounds-then g s (h .steady) b (h .known) (h .unsealed))
             (put b (w ∷ ws) idle) (suc (length ws)) (settled b g s (n - left)) rests .params b;
       };
-      before = rests .kp b;
+      before = rests .caller .params b ++ rests .kp b;
       after = snds ws;
-      split = parts (mark-sealed g b) ⊥ (settled b g s (n - left)) (rests .kp) (put b (w ∷ ws) idle) (rests .inv) (w .0) b (w .1) ws sealed-now (put-same b (w ∷ ws) idle);
+      split = parts (mark-sealed g b) (frame ⊥ (rests .caller)) (settled b g s (n - left)) (rests .kp) (put b (w ∷ ws) idle) (rests .inv) (w .0) b (w .1) ws sealed-now (put-same b (w ∷ ws) idle);
       count = omega (arith, h .lists .count, snds-length ws, length-drop (suc (n - left)) (s .pending b));
     }
 

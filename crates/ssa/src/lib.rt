@@ -109,7 +109,7 @@ fn settle_pending(
     ensures { λ r. ⌜ ((g : Graph) → (s : Form) → Marked (now (graph .entry)) (now (form .entry)) (now (work .entry)) c (block .0) g s
         → At-rest (now (graph .entry)) (now (form .exit)) (now (work .exit)) r (mark-sealed g (block .0)) (seal-form g s (block .0))) ⌝ }
 {
-    let mut waiting = [0u32; entity::VARIABLES as usize];
+    let mut waiting = [0u32; entity::WAIT_ROOM];
     let n = form::take_pending(form, block, &mut waiting);
     let mut d = c;
     let mut left = n;

@@ -92,8 +92,20 @@ is-sealed-requires c κs = (_, ready (c .before .before .before .before .before 
 returns-14 : tie.Need-returns-14
 returns-14 c = λ t e h. rw (c .before .before .match .keys14) record { replies = c .is-sealed .ensures _ t (h .showing); idle = h .idle }
 
+own-param-requires : tie.Need-own-param-requires
+own-param-requires c κs = ready (c .before .before .before .before .before .before .pre)
+
 returns-15 : tie.Need-returns-15
-returns-15 c =
+returns-15 c = λ t e h. rw (c .before .before .before .before .before .match .keys15) record { replies = c .before .before .own-param .ensures t (h .showing); idle = h .idle }
+
+give-arg-requires : tie.Need-give-arg-requires
+give-arg-requires c κs = ready (c .before .before .before .before .before .before .pre)
+
+returns-16 : tie.Need-returns-16
+returns-16 c = λ t e h. rw (c .before .before .before .before .before .match .keys16) record { replies = c .before .before .give-arg .ensures t (h .showing); idle = h .idle }
+
+returns-17 : tie.Need-returns-17
+returns-17 c =
     let e1 = c .before .before .before .before .before in
     λ t e h. rw (unknown (t .graph) (t .form) (t .done) (e1 .args .x) (e1 .args .y) (e1 .args .z) (e1 .args .kind) (c .before .match .rest)) (turned-down h (c .refuse .ensures))
 
@@ -109,4 +121,5 @@ one-call-spec =
     (λ c. search needs) returns-9 drop-pred-requires (λ c. search needs) returns-10 (λ c κs. search needs)
     (λ c. search needs) (λ c. search needs) (λ c. search needs) returns-11 (λ c κs. search needs) (λ c. search needs)
     (λ c. search needs) (λ c. search needs) returns-12 has-any-predecessors-requires (λ c. search needs) returns-13
-    is-sealed-requires (λ c. search needs) returns-14 (λ c κs. search needs) returns-15)
+    is-sealed-requires (λ c. search needs) returns-14 own-param-requires (λ c. search needs) (λ c. search needs) returns-15
+    give-arg-requires (λ c. search needs) (λ c. search needs) returns-16 (λ c κs. search needs) returns-17)

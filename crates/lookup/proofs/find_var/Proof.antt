@@ -2,6 +2,7 @@
 -- Assumes nothing.
 use borrow.Author.Needs.{needs}
 use mathlib.Core.Path.{refl}
+use Rattle.definition.specs.Form.{param}
 use Rattle.lookup.proofs.Finds.{type-low, walk-can, answer-can, finds-met, append-can, block-low, value-small, record-has, begin-can, answer-can-after, wait-can, finds-sealed, finds-open}
 use Rattle.lookup.proofs.find_var.Statement.{statement}
 use Rattle.lookup.proofs.find_var.Tie as tie
@@ -16,7 +17,7 @@ returns : tie.Need-returns
 returns c = λ g s ts rs h. finds-met h (c .before .before .before .before .before .before .before .before .walk .ensures g s (walk-can (h .asks))) (c .before .before .before .before .before .value .given .1) refl refl (c .before .before .push-result .ensures)
 
 append-block-param-requires : tie.Need-append-block-param-requires
-append-block-param-requires c κs = let p = c .before .before .before .before .before .before .before .before .before .pre in ((p .1, append-can (p .4) (c .before .before .before .before .walk .ensures _ _ (walk-can (p .4 .asks))) (c .before .enum-told .given .1)), type-low (p .4 .asks))
+append-block-param-requires c κs = let p = c .before .before .before .before .before .before .before .before .before .pre in ((p .1, append-can (p .4) (c .before .before .before .before .walk .ensures _ _ (walk-can (p .4 .asks))) (c .before .enum-told .given .1)), (type-low (p .4 .asks), (param, refl)))
 
 record-def-requires : tie.Need-record-def-requires
 record-def-requires c κs =
