@@ -121,7 +121,8 @@ fn types(before: &Session, [kind, x, y, z]: [u32; 4]) -> Option<String> {
     if kind == Kind::AppendArgument.number() {
         let way = before.destinations(Branch(x)).ok()?.nth(z as usize)?;
         let param = before.value(before.caller_params(way.target).ok()?.nth(way.args.len())?).ok()?;
-        return Some(format!("the parameter {} of {} is {} and {} is {}", param.value, way.target, param.ty, Value(y), before.value(Value(y)).ok()?.ty));
+        let given = before.value(Value(y)).ok()?;
+        return Some(format!("the parameter {} of {} is {} and {} is {}", param.value, param.block, param.ty, given.value, given.ty));
     }
     let variable = Variable(x);
     let wanted = before.type_of(variable).ok()?;
@@ -138,9 +139,10 @@ fn fixed_by(before: &Session, block: Block) -> String {
     if before.is_sealed(block).unwrap_or(false) {
         return format!("{block} is sealed");
     }
-    let entered = before.predecessors(block).ok().and_then(|mut branches| branches.next());
-    let waits = before.pending(block).ok().and_then(|mut variables| variables.next());
-    entered.map_or_else(|| words("", waits.into_iter()) + &format!(" waits in {block}"), |branch| format!("{branch} is declared to {block}"))
+    match before.predecessors(block).ok().and_then(|mut branches| branches.next()) {
+        Some(branch) => format!("{branch} is declared to {block}"),
+        None => words("", before.pending(block).into_iter().flatten().take(1)) + &format!(" waits in {block}"),
+    }
 }
 
 /// Why a destination takes no further argument of the caller's.

@@ -158,12 +158,15 @@ mod tests {
     use super::*;
     use sangvireb::raw::*;
 
-    /// Puts another value for the first argument that there is.
-    fn spoil(lent: &mut Lent) -> bool {
+    /// Puts another value for the first argument that the builder appended, if there is one: behind the caller's.
+    fn spoil(calls: &[Call], lent: &mut Lent) -> bool {
+        let session = Finished::of(calls, lent);
+        let edges = (0..session.blocks()).flat_map(|b| session.dests(b).iter().enumerate().map(move |(i, &to)| (b as usize, i, to)));
+        let first = |(b, i, to)| (ARG_ROWS + PARAM_ROW * (DESTS * b + i), session.own_params(to).len());
+        let found = edges.map(first).find(|&(row, own)| lent.form()[row] as usize > own);
+        let Some((row, own)) = found else { return false };
         let form = &mut lent.tables[3];
-        let values = form[VALUE_COUNT];
-        let Some(row) = (0..BLOCKS * DESTS).map(|i| ARG_ROWS + PARAM_ROW * i).find(|&row| form[row] > 0) else { return false };
-        form[row + 1] = (form[row + 1] + 1) % values;
+        form[row + 1 + own] = (form[row + 1 + own] + 1) % form[VALUE_COUNT];
         true
     }
 
@@ -175,7 +178,7 @@ mod tests {
             let mut rng = Rng::nth(9, number);
             let calls = proper_list(&mut lent, &mut rng);
             lent.run(&calls, &mut rng);
-            if spoil(&mut lent) {
+            if spoil(&calls, &mut lent) {
                 spoiled += 1;
                 found += u32::from(breach(&Finished::of(&calls, &lent), &mut rng, &mut Figures::default()).is_some());
             }
