@@ -129,5 +129,5 @@ fn types_know_their_width_and_their_unset_value() {
     assert_eq!((raw::unset_bits(6), raw::unset_bits(u32::MAX)), (0, 0));
     assert!(Type::ALL.iter().all(|&ty| Type::from_number(ty.number()) == Some(ty)));
     assert_eq!(Type::from_number(6), None);
-    assert_eq!((Kind::from_number(0), Kind::from_number(16), Kind::from_number(17)), (None, Some(Kind::AppendArgument), None));
+    assert_eq!((Kind::from_number(0), Kind::from_number(17), Kind::from_number(18)), (None, Some(Kind::MarkVarNeedsStackMap), None));
 }

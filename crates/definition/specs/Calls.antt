@@ -64,6 +64,10 @@ own-param b type = call 15 b type 0
 abbrev pub give-arg : Block → Value → ℕ → Call
 give-arg p x i = call 16 p x i
 
+-- stack maps must have what v receives
+abbrev pub mark-var : Variable → Call
+mark-var v = call 17 v 0 0
+
 -- n blocks
 abbrev pub blocks : ℕ → List Call
 blocks n = map declare-block (upFrom 0 n)

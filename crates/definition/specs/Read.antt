@@ -8,7 +8,7 @@ use lib.Dec.{eqb}
 use lib.ListN.{getD}
 use Rattle.definition.specs.Base.{Block, Variable, Value, _=?_, if_then_else_, put, put₂, _∷ʳ_, has, every, without, before}
 use Rattle.definition.specs.Form.{Graph, Form, Sort, param, nought, def, with-next, with-info, with-target}
-use Rattle.definition.specs.Form.{with-params, with-args, with-pending, with-entry, with-own, with-zeros, with-placed}
+use Rattle.definition.specs.Form.{with-params, with-args, with-pending, with-entry, with-own, with-zeros, with-placed, with-recorded}
 
 -- a change of the form, with the value that it answers
 abbrev pub Got : Type 0
@@ -63,9 +63,15 @@ place-block b s = with-placed s (if has b (s .placed) then s .placed else s .pla
 abbrev pub log-zero : ℕ → Block → Form → Form
 log-zero c b s = with-zeros s (s .zeros ∷ʳ (c, b))
 
+-- record_stack_map_binding: v receives x, so stack maps must have x if v is marked
+abbrev pub record-binding : Graph → Variable → Value → Form → Form
+record-binding g v x s = with-recorded s (if g .marks v then put x true (s .recorded) else s .recorded)
+
 -- a parameter for v on c, recorded there
 abbrev pub new-param : Graph → Variable → Block → Form → Form
-new-param g v c s = let x = s .next in mark-one v x c (set-params c (s .params c ∷ʳ x) (make param (type-of g v) c s))
+new-param g v c s =
+    let x = s .next in
+    record-binding g v x (mark-one v x c (set-params c (s .params c ∷ʳ x) (make param (type-of g v) c s)))
 
 -- v waits in c with its parameter x
 abbrev pub wait : Variable → Block → Value → Form → Form

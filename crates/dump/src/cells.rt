@@ -114,6 +114,16 @@ fn recorded(form: &[u32], i: usize, j: usize) -> usize {
     cell(form, layout::DEFS, j * BLOCKS + i)
 }
 
+// Is variable i marked for stack maps?
+pub fn is_marked(graph: &[u32], i: usize) -> bool {
+    raw(graph, layout::MARKS, i) != 0
+}
+
+// Is value i recorded for them?
+pub fn is_recorded(form: &[u32], i: usize) -> bool {
+    Described::is_marked(raw(form, layout::DESCRIBED, i))
+}
+
 // What each line tells, in the order of its numbers.
 pub fn counts(graph: &[u32], form: &[u32]) -> Numbers {
     Numbers {

@@ -46,10 +46,10 @@ module _ (l : Limits) where
   abbrev pub result-room : ℕ
   result-room = suc (l .blocks * l .dests)
 
-  -- the graph's cells: block count; types; branch marks; sealed marks; declared marks; destinations; predecessors
+  -- the graph's cells: block count; types; branch marks; sealed marks; declared marks; variables' marks; destinations; predecessors
   abbrev pub graph-need : ℕ
   graph-need =
-      1 + row-cells (l .variables) + l .blocks + l .blocks + l .blocks
+      1 + row-cells (l .variables) + l .blocks + l .blocks + l .blocks + l .variables
       + l .blocks * row-cells (l .dests) + l .blocks * row-cells pred-room
 
   -- the form's cells: counts of values and of made ones; target and description of each value; blocks placed; the zeros' calls and blocks;

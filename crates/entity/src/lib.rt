@@ -1,7 +1,7 @@
 // The numbers that stand for blocks, variables, values and branches; the types; what a value is, in one cell; the limits, and the rooms that follow from them.
 ghost use mathlib.Core.Path.{_≡_};
-ghost use lib.Dec.{ltb};
-ghost use Rattle.entity.specs.Described.{Fits, Parts, packed};
+ghost use lib.Dec.{eqb, ltb};
+ghost use Rattle.entity.specs.Described.{Fits, Parts, packed, mark-of, with-mark};
 ghost use Rattle.entity.specs.Host.{In-force, Needed};
 ghost use Rattle.entity.specs.Types.{number-of, type-count, type-with, unset-of, unset-with, width-of};
 
@@ -117,8 +117,8 @@ impl Type {
     }
 }
 
-// What a value is: its cell holds the type in the lowest five bits, since the type is read most, then the sort in two and a bit that is kept for a
-// mark. The block stands on top, so that no limit on blocks moves the others.
+// What a value is: its cell holds the type in the lowest five bits, since the type is read most, then the sort in two and a bit that is the mark: stack maps
+// must have the value. The block stands on top, so that no limit on blocks moves the others.
 pub struct Described {
     pub ty: u32,
     pub sort: u32,
@@ -151,6 +151,22 @@ impl Described {
             sort: cell / Described::TYPES % Described::SORTS,
             block: Block(cell / Described::TYPES / Described::SORTS / Described::MARKS),
         }
+    }
+
+    // The same with its mark set; it may be set already.
+    pub fn marked(cell: u32) -> u32
+        ensures { λ r. ⌜ r ≡ with-mark cell ⌝ }
+    {
+        let unit = Described::TYPES * Described::SORTS;
+        let above = cell / unit / Described::MARKS;
+        (above * Described::MARKS + 1) * unit + cell % unit
+    }
+
+    // Is it set?
+    pub fn is_marked(cell: u32) -> bool
+        ensures { λ r. ⌜ r ≡ eqb (mark-of cell) 1 ⌝ }
+    {
+        cell / Described::TYPES / Described::SORTS % Described::MARKS == 1
     }
 }
 
@@ -201,6 +217,7 @@ pub const GRAPH_NEED: usize = 1
     + BLOCKS as usize
     + BLOCKS as usize
     + BLOCKS as usize
+    + VARIABLES as usize
     + BLOCKS as usize * DEST_ROW
     + BLOCKS as usize * PRED_ROW;
 

@@ -8,11 +8,11 @@ use Rattle.entity.specs.Types.{type-count}
 
 -- rises when an exported call takes, answers or leaves something else, or has another name, or when what it leaves stands for something else
 abbrev pub version : ℕ
-version = 4
+version = 5
 
 -- kinds of call are numbered from 1 to this
 abbrev pub kind-count : ℕ
-kind-count = 16
+kind-count = 17
 
 -- sorts of value are numbered from 0
 abbrev pub sort-count : ℕ

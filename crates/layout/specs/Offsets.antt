@@ -16,8 +16,8 @@ starts sizes = map (base sizes) (upFrom 0 (suc (length sizes)))
 widths : type-row ∷ dest-row ∷ pred-row ∷ zero-row ∷ param-row ∷ wait-row ∷ [] ≡ 65 ∷ 9 ∷ 65 ∷ 4097 ∷ 129 ∷ 65 ∷ []
 widths = refl
 
--- blocks, types, branch marks, sealed marks, declared marks, destinations, predecessors
-graph-starts : starts graph-sizes ≡ 0 ∷ 1 ∷ 66 ∷ 130 ∷ 194 ∷ 258 ∷ 834 ∷ 4994 ∷ []
+-- blocks, types, branch marks, sealed marks, declared marks, variables' marks, destinations, predecessors
+graph-starts : starts graph-sizes ≡ 0 ∷ 1 ∷ 66 ∷ 130 ∷ 194 ∷ 258 ∷ 322 ∷ 898 ∷ 5058 ∷ []
 graph-starts = refl
 
 -- values, made values, target, description, placed, zero calls, zero blocks, parameters, caller's parameters, pending variables,

@@ -51,3 +51,7 @@ pub mod Holds
 pub mod Brought
 pub mod Turns
 pub mod Answers
+-- stack maps: which values are recorded, and that marks change nothing else
+pub mod Binding
+pub mod Unmarked
+pub mod Marks

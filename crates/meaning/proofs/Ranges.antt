@@ -14,17 +14,17 @@ use Rattle.entity.specs.Limits.{limits}
 use Rattle.entity.specs.Types.{type-count}
 use Rattle.definition.specs.Base.{put, put₂, orElse, every, has, without}
 use Rattle.definition.specs.Form.{Graph, Form, Info, param, nought, def, with-args, with-params, with-owns, with-entry, made, caller, with-makes, Sort}
-use Rattle.definition.specs.Read.{Got, resolve, follow, type-of, mark-one, mark, alias, is-dest, feed, feed-all, settle-left, settle, place-block, make, write}
+use Rattle.definition.specs.Read.{Got, resolve, follow, type-of, mark-one, mark, alias, is-dest, feed, feed-all, settle-left, settle, place-block, make, write, record-binding}
 use Rattle.meaning.specs.Path.{In}
 use Rattle.meaning.specs.Stored.{Nodup}
 use Rattle.meaning.proofs.Causing.{Caused, new-caused, entered-caused, wider-caused, aliased-caused}
 use Rattle.meaning.proofs.Growing.{grown}
-use Rattle.meaning.proofs.Maps.{same?, put-same, put-other, put-at, put₂-at, put₂-other, here?, false-true, put₂-is}
+use Rattle.meaning.proofs.Maps.{bind-other, same?, put-same, put-other, put-at, put₂-at, put₂-other, here?, false-true, put₂-is}
 use Rattle.meaning.proofs.Lists.{nodup-snoc, in-cases, without-in, has-in, in-one, map-in}
 use Rattle.meaning.proofs.Inv.{Grow, Param, nought-param, caller-param, Work}
 
--- the graph: its counts of blocks, types, branch marks, destinations, sealed marks
-pub record Bounded (n : ℕ) (ts : List ℕ) (br : ℕ → Bool) (ds : ℕ → List ℕ) (sl : ℕ → Bool) : Type 0 where
+-- the graph: its counts of blocks, types, branch marks, destinations, sealed marks, variables' marks
+pub record Bounded (n : ℕ) (ts : List ℕ) (br : ℕ → Bool) (ds : ℕ → List ℕ) (sl mk : ℕ → Bool) : Type 0 where
   pub few : n ≤ limits .blocks
   pub vars : length ts ≤ limits .variables
   pub typed : (w : ℕ) → w < length ts → getD ts w 0 < type-count
@@ -33,9 +33,10 @@ pub record Bounded (n : ℕ) (ts : List ℕ) (br : ℕ → Bool) (ds : ℕ → L
   pub from : (p b : ℕ) → In b (ds p) → br p ≡ true
   pub branches : (p : ℕ) → br p ≡ true → p < n
   pub shut : (b : ℕ) → sl b ≡ true → b < n
+  pub marked : (v : ℕ) → mk v ≡ true → v < length ts
 
 abbrev pub Bounds : Graph → Type 0
-Bounds g = Bounded (g .blocks) (g .types) (g .branch) (g .dests) (g .sealed)
+Bounds g = Bounded (g .blocks) (g .types) (g .branch) (g .dests) (g .sealed) (g .marks)
 
 -- values
 pub record Valued (blocks : ℕ) (info : ℕ → Info) (target : ℕ → ℕ) (next : ℕ) : Type 0 where
@@ -62,6 +63,7 @@ pub record Ranged (g : Graph) (s : Form) : Type 0 where
   pub logs : Logs (g .call) (g .blocks) (s .zeros) (s .placed)
   pub caused : Caused g s
   pub still : (b : ℕ) → g .sealed b ≡ true → s .pending b ≡ []
+  pub unrecorded : (x : ℕ) → s .next ≤ x → s .recorded x ≡ false
 
 pub def-below : (g : Graph) (s : Form) → Ranged g s → (w b e : ℕ) → def s w b ≡ some e → e < s .next
 def-below g s h w b e q = by (s .own w b) refl q
@@ -165,10 +167,18 @@ module _ (g : Graph) (s : Form) (h : Ranged g s) where
     };
     caused = wider-caused (h .caused) (length (g′ .types)) ty;
     still = λ b z. h .still b (sym (se b) ∙ z);
+    unrecorded = h .unrecorded;
   }
 
   pub place-ranged : (b : ℕ) → b < g .blocks → Ranged g (place-block b s)
-  place-ranged b lb = record { valued = h .valued; recorded = h .recorded; logs = placed-logs (g .call) (g .blocks) (s .zeros) (s .placed) (h .logs) b lb; caused = h .caused; still = h .still }
+  place-ranged b lb = record {
+    valued = h .valued;
+    recorded = h .recorded;
+    logs = placed-logs (g .call) (g .blocks) (s .zeros) (s .placed) (h .logs) b lb;
+    caused = h .caused;
+    still = h .still;
+    unrecorded = h .unrecorded;
+  }
 
   pub make-ranged : (m y b : ℕ) → b < g .blocks → y < type-count → s .target (s .next) ≡ s .next
       → Ranged g (make made y b (place-block b (with-makes s m)))
@@ -178,6 +188,7 @@ module _ (g : Graph) (s : Form) (h : Ranged g s) where
     logs = placed-logs (g .call) (g .blocks) (s .zeros) (s .placed) (h .logs) b lb;
     caused = new-caused (h .caused) (record { sort = made; type = y; home = b }) (λ q. absurd (made-param q)) (λ q. absurd (made-nought q));
     still = h .still;
+    unrecorded = λ x l. h .unrecorded x (omega arith);
   }
     where
       made-param : _≡_ {A = Sort} made param → ⊥
@@ -195,6 +206,7 @@ module _ (g : Graph) (s : Form) (h : Ranged g s) where
     logs = h .logs;
     caused = new-caused (h .caused) (record { sort = caller; type = y; home = b }) (λ q. absurd (caller-param refl q)) (λ q. absurd (caller-nought q));
     still = h .still;
+    unrecorded = λ x l. h .unrecorded x (omega arith);
   }
     where
       caller-nought : _≡_ {A = Sort} caller nought → ⊥
@@ -218,9 +230,10 @@ module _ (g : Graph) (s : Form) (h : Ranged g s) where
     logs = h .logs;
     caused = h .caused;
     still = h .still;
+    unrecorded = h .unrecorded;
   }
 
-  pub write-ranged : (v b x : ℕ) → v < length (g .types) → b < g .blocks → x < s .next → Ranged g (write v b x s)
+  pub write-ranged : (v b x : ℕ) → v < length (g .types) → b < g .blocks → x < s .next → Ranged g (record-binding g v x (write v b x s))
   write-ranged v b x lv lb lx = record {
     valued = h .valued;
     recorded = record {
@@ -234,6 +247,7 @@ module _ (g : Graph) (s : Form) (h : Ranged g s) where
     logs = h .logs;
     caused = h .caused;
     still = h .still;
+    unrecorded = λ y l. bind-other (g .marks v) x (s .recorded) y (omega arith) ∙ h .unrecorded y l;
   }
 
   pub mark-ranged : (v x : ℕ) (bs : List ℕ) → x < s .next → Grow s (mark v x bs s) → Ranged g (mark v x bs s)
@@ -247,6 +261,7 @@ module _ (g : Graph) (s : Form) (h : Ranged g s) where
     logs = h .logs;
     caused = entered-caused (h .caused) (mark v x bs s .entry) (up .entry);
     still = h .still;
+    unrecorded = h .unrecorded;
   })
 
   -- a new parameter for v on c, where ws waits afterwards
@@ -264,6 +279,7 @@ module _ (g : Graph) (s : Form) (h : Ranged g s) where
     caused = new-caused (entered-caused (h .caused) (put₂ v c (some (s .next)) (s .entry)) (up .entry)) new
         (λ _. (v, lv, put₂-at v c (some (s .next)) (s .entry) v c refl refl)) (λ q. absurd (nought-param q refl));
     still = quiet;
+    unrecorded = λ y l. bind-other (g .marks v) (s .next) (s .recorded) y (omega arith) ∙ h .unrecorded y (omega arith);
   }
     where
       new : Info
@@ -297,6 +313,7 @@ module _ (g : Graph) (s : Form) (h : Ranged g s) where
         caused = new-caused (aliased-caused (h .caused) x (s .next) (par .root)) new (λ q. absurd (nought-param refl q))
             (λ _. (x, par .below, par .sort, par .home, put-same x (s .next) (s .target)));
         still = h .still;
+        unrecorded = λ y l. h .unrecorded y (omega arith);
       },
       omega arith,
     )
@@ -319,6 +336,7 @@ module _ (g : Graph) (s : Form) (h : Ranged g s) where
         logs = h .logs;
         caused = aliased-caused (h .caused) x y (par .root);
         still = h .still;
+        unrecorded = h .unrecorded;
       },
       ly,
     )
@@ -335,6 +353,7 @@ module _ (g : Graph) (s : Form) (h : Ranged g s) where
         logs = h .logs;
         caused = h .caused;
         still = h .still;
+        unrecorded = h .unrecorded;
       },
       par .below,
     )

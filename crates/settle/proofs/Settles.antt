@@ -42,7 +42,7 @@ module _ (fl : List ℕ) (c : Counts) (x b : ℕ) (s : Form) (h : Can-zero fl c 
 
     module _ (fl₂ : List ℕ) (L : (s : Form) → Can-log fl₁ s → Cells fl₂ (log-zero (c .call) b s)) where
       pub zero-make : Can-make fl₂ c (log-zero (c .call) b (place-block b s))
-      zero-make = record { shows = record { cells = L (place-block b s) zero-log; next = h .make .shows .next }; room = h .make .room; fresh = h .make .fresh }
+      zero-make = record { shows = record { cells = L (place-block b s) zero-log; next = h .make .shows .next }; room = h .make .room; fresh = h .make .fresh; unrecorded = h .make .unrecorded }
 
       pub zero-made : (fl₃ : List ℕ) (ty m : ℕ) → ((s : Form) → Has-value fl x s → s .info x .type < type-count → ty ≡ s .info x .type)
           → ((s : Form) → Can-make fl₂ c s → (k : Sort) → m ≡ sort-number k → Shows fl₃ (more c) (make k ty b s)) → m ≡ sort-number nought → Shows fl₃ (more c) (zeroed (c .call) x b s)
@@ -100,7 +100,7 @@ module _ (gl fl wl : List ℕ) (c : Counts) (x b : ℕ) (g : Graph) (s : Form) (
 
   pub can-zero : Can-zero fl c x b s
   can-zero = record {
-    make = record { shows = h .shows; room = h .settles .room; fresh = h .settles .fresh };
+    make = record { shows = h .shows; room = h .settles .room; fresh = h .settles .fresh; unrecorded = h .settles .unrecorded };
     there = h .settles .there;
     typed = h .settles .typed;
     known = block-known;

@@ -103,6 +103,7 @@ pub record Settles (g : Graph) (x b : ℕ) (s : Form) (rs : List ℕ) : Type 0 w
   pub typed : s .info x .type < type-count
   pub room : s .next < value-room limits
   pub fresh : s .target (s .next) ≡ s .next
+  pub unrecorded : s .recorded (s .next) ≡ false
   pub targets : (y : ℕ) → y < s .next → s .target y < s .next
   pub chains : (y : ℕ) → y < s .next → Ends (targets-of s) y (resolve s y)
   pub enough : length (g .preds b) ≤ length rs

@@ -43,6 +43,7 @@ module _ (g : Graph) (G : Sound g) (B : Bounds g) (v : ℕ) (lv : v < length (g 
     opens = opens;
     results = results;
     fresh = r .inv .aliased .fresh (s .next) (omega arith);
+    unrecorded = r .ranged .unrecorded (s .next) (omega arith);
     few = omega (arith, load-next s k (r .load));
     defs = def-below g s (r .ranged);
   }
@@ -82,6 +83,7 @@ module _ (g : Graph) (G : Sound g) (B : Bounds g) (v : ℕ) (lv : v < length (g 
           typed = t .info x (r .value) .1;
           room = r .next;
           fresh = t .unused (s .next) (omega arith);
+          unrecorded = t .unrecorded (s .next) (omega arith);
           targets = t .targets;
           chains = chains-end-now g v others k (conf (finish x b ∷ ts) rs s) m;
           enough = r .taken;
