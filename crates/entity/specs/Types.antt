@@ -1,6 +1,7 @@
--- The six types: their numbers, their widths in bytes, and the bits of their zeros.
+-- The six types: their numbers, their widths in bytes, and the bits of their unset values.
 -- Assumes nothing.
-use Prim.Native.Nat.{ℕ}
+use Prim.Native.Nat.{ℕ, _+_, _-_, _/_, _%_, _^_}
+use mathlib.Core.Path.{_≡_}
 use mathlib.Core.List.{List, [], _∷_}
 use lib.ListN.{getD}
 use Rattle.entity.specs.declared.Type.{«Type»}
@@ -35,19 +36,27 @@ width-of I64 = 8
 width-of F32 = 4
 width-of F64 = 8
 
--- all bits are clear in the zero of an integer, and in the positive zero of a float
-abbrev pub zero-of : «Type» → ℕ
-zero-of I8 = 0
-zero-of I16 = 0
-zero-of I32 = 0
-zero-of I64 = 0
-zero-of F32 = 0
-zero-of F64 = 0
+-- The bits of a type's unset value: what a variable of it holds where it has received nothing. An integer's are all clear; a float's are a quiet NaN, so that
+-- it shows.
+abbrev pub unset-of : «Type» → ℕ
+unset-of I8 = 0
+unset-of I16 = 0
+unset-of I32 = 0
+unset-of I64 = 0
+unset-of F32 = 0x7FC0_0000
+unset-of F64 = 0x7FF8_0000_0000_0000
 
 -- the same by the type's number; a number that names no type gets 0
-abbrev pub zero-found : Found → ℕ
-zero-found (Is t) = zero-of t
-zero-found Nothing = 0
+abbrev pub unset-found : Found → ℕ
+unset-found (Is t) = unset-of t
+unset-found Nothing = 0
 
-abbrev pub zero-with : ℕ → ℕ
-zero-with n = zero-found (type-with n)
+abbrev pub unset-with : ℕ → ℕ
+unset-with n = unset-found (type-with n)
+
+-- The quiet NaN of a float that has e bits of exponent above f bits of fraction: the sign is clear, the exponent all ones, and of the fraction only the top
+-- bit is set.
+pub record Quiet-nan (e f bits : ℕ) : Type 0 where
+  pub sign : bits / 2 ^ (e + f) ≡ 0
+  pub exponent : bits / 2 ^ f ≡ 2 ^ e - 1
+  pub fraction : bits % 2 ^ f ≡ 2 ^ (f - 1)

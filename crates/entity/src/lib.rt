@@ -3,7 +3,7 @@ ghost use mathlib.Core.Path.{_≡_};
 ghost use lib.Dec.{ltb};
 ghost use Rattle.entity.specs.Described.{Fits, Parts, packed};
 ghost use Rattle.entity.specs.Host.{In-force, Needed};
-ghost use Rattle.entity.specs.Types.{number-of, type-count, type-with, width-of, zero-of};
+ghost use Rattle.entity.specs.Types.{number-of, type-count, type-with, unset-of, unset-with, width-of};
 
 // Four kinds of number, each a type of its own, so that one can't be taken for another.
 pub struct Block(pub u32);
@@ -92,17 +92,27 @@ impl Type {
         }
     }
 
-    // The bits of the type's zero.
-    pub fn zero_bits(self) -> u64
-        ensures { λ r. ⌜ r ≡ zero-of self ⌝ }
+    // The bits of the type's unset value: a zero of this type holds them. A float's are a quiet NaN.
+    pub fn unset_bits(self) -> u64
+        ensures { λ r. ⌜ r ≡ unset-of self ⌝ }
     {
         match self {
             Type::I8 => 0,
             Type::I16 => 0,
             Type::I32 => 0,
             Type::I64 => 0,
-            Type::F32 => 0,
-            Type::F64 => 0,
+            Type::F32 => 0x7FC0_0000,
+            Type::F64 => 0x7FF8_0000_0000_0000,
+        }
+    }
+
+    // The same by the type's number; 0 for a number that names no type.
+    pub fn unset_bits_with(n: u32) -> u64
+        ensures { λ r. ⌜ r ≡ unset-with n ⌝ }
+    {
+        match Type::from_number(n) {
+            Found::Is(t) => t.unset_bits(),
+            Found::Nothing => 0,
         }
     }
 }

@@ -5,13 +5,13 @@ use mathlib.Core.Bool.{true}
 use mathlib.Core.List.{List, _++_}
 use mathlib.Core.Option.{some}
 use lib.ListN.{length, getD}
-use Rattle.entity.specs.Types.{zero-with}
+use Rattle.entity.specs.Types.{unset-with}
 use Rattle.definition.specs.Session.{Call, session, seal-each, answered}
 use Rattle.definition.specs.Resolve.{Resolved, targets}
 use Rattle.definition.specs.Read.{resolve}
 use Rattle.definition.specs.Base.{_∷ʳ_}
 use Rattle.meaning.specs.Path.{Supposed, Counted, None-late, In, given, callers, Right, Mem, res, enter}
-use Rattle.meaning.specs.Bits.{Faithful-bits, Zeros-typed}
+use Rattle.meaning.specs.Bits.{Faithful-bits, Unset-shows, Zeros-typed}
 use Rattle.meaning.specs.Turns.{Scheduled}
 use Rattle.meaning.specs.Answers.{Answered}
 use Rattle.meaning.specs.Stored.{Stored}
@@ -26,7 +26,7 @@ use Rattle.meaning.proofs.Rooms.{fed-always, given-first, given-few, gi
 use Rattle.meaning.proofs.Steady.{calls-count, logged}
 use Rattle.meaning.proofs.Turns.{scheduled, scheduled-all}
 use Rattle.meaning.proofs.Demand.{demand-3, counted-right}
-use Rattle.meaning.proofs.Bits.{zeros-typed}
+use Rattle.meaning.proofs.Bits.{shows, zeros-typed}
 use Rattle.meaning.proofs.Answers.{answered-one}
 use Rattle.meaning.proofs.Holds.{holds, still-caller}
 use Rattle.meaning.proofs.Sure.{sure, from-then}
@@ -37,16 +37,21 @@ use Rattle.meaning.proofs.Brought.{brought}
 
 -- ---- demand 3
 
--- On every path each use's answer, aliases resolved, holds what its variable last received, or zero; and every destination has an argument for each parameter
--- of its block: where all is as `Supposed` lists.
+-- On every path each use's answer, aliases resolved, holds what its variable last received, or its type's unset value; and every destination has an
+-- argument for each parameter of its block: where all is as `Supposed` lists. Whatever the words are, and whatever the unset value of each type.
 pub answers-hold : (cs : List Call) → Supposed (session cs) → Right (session cs)
 answers-hold = demand-3
 
--- The same by bits: each answer holds the bits that its variable last received, or those of its type's zero.
+-- The same by bits: each answer holds the bits that its variable last received, or those of its type's unset value.
 pub answers-hold-by-bits : (cs : List Call) → Supposed (session cs) → Faithful-bits (session cs)
-answers-hold-by-bits cs S = answers-hold cs S .0 ℕ zero-with
+answers-hold-by-bits cs S = answers-hold cs S .0 ℕ unset-with
 
--- In every session each zero and each variable has a known type, and these are the bits of that type's zero.
+-- So where its variable received nothing on the path, the answer holds `unset-of` the variable's type: 0x7FC0_0000 for F32, 0x7FF8_0000_0000_0000 for F64,
+-- 0 for an integer.
+pub unset-shows : (cs : List Call) → Supposed (session cs) → Unset-shows (session cs)
+unset-shows cs S = shows (session cs) (answers-hold-by-bits cs S)
+
+-- In every session each zero and each variable has a known type, and these are the bits of that type's unset value.
 pub zeros-have-bits : (cs : List Call) → Zeros-typed (session cs)
 zeros-have-bits = zeros-typed
 
