@@ -24,7 +24,7 @@ module _ (l : Limits) where
 
   -- and at most one parameter per block
   abbrev pub value-room : ℕ
-  value-room = l .made + 2 * zero-room
+  value-room = l .made + 3 * zero-room
 
   -- variables pending in a block
   abbrev pub wait-room : ℕ

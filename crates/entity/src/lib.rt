@@ -3,7 +3,7 @@ ghost use mathlib.Core.Path.{_≡_};
 ghost use lib.Dec.{ltb};
 ghost use Rattle.entity.specs.Described.{Fits, Parts, packed};
 ghost use Rattle.entity.specs.Host.{In-force, Needed};
-ghost use Rattle.entity.specs.Types.{number-of, type-count, type-with, unset-of, unset-with, width-of};
+ghost use Rattle.entity.specs.Types.{Shaped, Unset, known-number, lane-of, lanes-of, number-found, step-of, type-count, width-of};
 
 // Four kinds of number, each a type of its own, so that one can't be taken for another.
 pub struct Block(pub u32);
@@ -26,14 +26,8 @@ pub enum OptionBlock {
     None,
 }
 
-pub enum Type {
-    I8,
-    I16,
-    I32,
-    I64,
-    F32,
-    F64,
-}
+// A type is its number. A number past the table names none: it has no lane, no width and no bits.
+pub struct Type(pub u32);
 
 // What a number names.
 pub enum Found {
@@ -41,8 +35,104 @@ pub enum Found {
     Nothing,
 }
 
+// What there is to know of a type: its lane's type (its own, unless it is a vector), how many lanes it has, its width in bytes, the type of the value that its
+// zero is made from where it takes two steps, and the unset value's bits, the low 64 and the high 64.
+struct Shape(Type, u32, u32, Found, u64, u64);
+
+// Quiet NaNs side by side, in 64 bits.
+const QUIET_16: u64 = 0x7E00_7E00_7E00_7E00;
+
+const QUIET_32: u64 = 0x7FC0_0000_7FC0_0000;
+
+const QUIET_64: u64 = 0x7FF8_0000_0000_0000;
+
+// The types, in the order of their numbers: to add one, write its line here and in specs/Types.antt, its name and the count below.
+const SHAPES: [Shape; Type::COUNT as usize] = [
+    Shape(Type::I8, 1, 1, Found::Nothing, 0, 0), // I8
+    Shape(Type::I16, 1, 2, Found::Nothing, 0, 0), // I16
+    Shape(Type::I32, 1, 4, Found::Nothing, 0, 0), // I32
+    Shape(Type::I64, 1, 8, Found::Nothing, 0, 0), // I64
+    Shape(Type::F32, 1, 4, Found::Nothing, 0x7FC0_0000, 0), // F32
+    Shape(Type::F64, 1, 8, Found::Nothing, QUIET_64, 0), // F64
+    Shape(Type::I128, 1, 16, Found::Is(Type::I64), 0, 0), // I128
+    Shape(Type::F16, 1, 2, Found::Nothing, 0x7E00, 0), // F16
+    Shape(Type::F128, 1, 16, Found::Nothing, 0, 0x7FFF_8000_0000_0000), // F128
+    Shape(Type::I8, 2, 2, Found::Nothing, 0, 0), // I8X2
+    Shape(Type::I8, 4, 4, Found::Nothing, 0, 0), // I8X4
+    Shape(Type::I8, 8, 8, Found::Nothing, 0, 0), // I8X8
+    Shape(Type::I8, 16, 16, Found::Nothing, 0, 0), // I8X16
+    Shape(Type::I16, 2, 4, Found::Nothing, 0, 0), // I16X2
+    Shape(Type::I16, 4, 8, Found::Nothing, 0, 0), // I16X4
+    Shape(Type::I16, 8, 16, Found::Nothing, 0, 0), // I16X8
+    Shape(Type::I32, 2, 8, Found::Nothing, 0, 0), // I32X2
+    Shape(Type::I32, 4, 16, Found::Nothing, 0, 0), // I32X4
+    Shape(Type::I64, 2, 16, Found::Nothing, 0, 0), // I64X2
+    Shape(Type::F16, 2, 4, Found::Is(Type::F16), 0x7E00_7E00, 0), // F16X2
+    Shape(Type::F16, 4, 8, Found::Is(Type::F16), QUIET_16, 0), // F16X4
+    Shape(Type::F16, 8, 16, Found::Is(Type::F16), QUIET_16, QUIET_16), // F16X8
+    Shape(Type::F32, 2, 8, Found::Is(Type::F32), QUIET_32, 0), // F32X2
+    Shape(Type::F32, 4, 16, Found::Is(Type::F32), QUIET_32, QUIET_32), // F32X4
+    Shape(Type::F64, 2, 16, Found::Is(Type::F64), QUIET_64, QUIET_64), // F64X2
+];
+
+// Up to 128 bits.
+pub struct Bits {
+    pub low: u64,
+    pub high: u64,
+}
+
 impl Type {
-    pub const COUNT: u32 = 6;
+    pub const COUNT: u32 = 25;
+
+    pub const I8: Type = Type(0);
+
+    pub const I16: Type = Type(1);
+
+    pub const I32: Type = Type(2);
+
+    pub const I64: Type = Type(3);
+
+    pub const F32: Type = Type(4);
+
+    pub const F64: Type = Type(5);
+
+    pub const I128: Type = Type(6);
+
+    pub const F16: Type = Type(7);
+
+    pub const F128: Type = Type(8);
+
+    pub const I8X2: Type = Type(9);
+
+    pub const I8X4: Type = Type(10);
+
+    pub const I8X8: Type = Type(11);
+
+    pub const I8X16: Type = Type(12);
+
+    pub const I16X2: Type = Type(13);
+
+    pub const I16X4: Type = Type(14);
+
+    pub const I16X8: Type = Type(15);
+
+    pub const I32X2: Type = Type(16);
+
+    pub const I32X4: Type = Type(17);
+
+    pub const I64X2: Type = Type(18);
+
+    pub const F16X2: Type = Type(19);
+
+    pub const F16X4: Type = Type(20);
+
+    pub const F16X8: Type = Type(21);
+
+    pub const F32X2: Type = Type(22);
+
+    pub const F32X4: Type = Type(23);
+
+    pub const F64X2: Type = Type(24);
 
     // Does this number name a type? The types are numbered from 0, without a gap.
     pub fn known(n: u32) -> bool
@@ -52,67 +142,66 @@ impl Type {
     }
 
     pub fn from_number(n: u32) -> Found
-        ensures { λ r. ⌜ r ≡ type-with n ⌝ }
+        ensures { λ r. ⌜ number-found r ≡ known-number n ⌝ }
     {
-        match n {
-            0 => Found::Is(Type::I8),
-            1 => Found::Is(Type::I16),
-            2 => Found::Is(Type::I32),
-            3 => Found::Is(Type::I64),
-            4 => Found::Is(Type::F32),
-            5 => Found::Is(Type::F64),
-            _ => Found::Nothing,
+        if n < Type::COUNT {
+            Found::Is(Type(n))
+        } else {
+            Found::Nothing
         }
     }
 
     pub fn number(self) -> u32
-        ensures { λ r. ⌜ r ≡ number-of self ⌝ }
+        ensures { λ r. ⌜ r ≡ self .0 ⌝ }
     {
-        match self {
-            Type::I8 => 0,
-            Type::I16 => 1,
-            Type::I32 => 2,
-            Type::I64 => 3,
-            Type::F32 => 4,
-            Type::F64 => 5,
+        self.0
+    }
+
+    fn shape(self) -> Shape
+        ensures { λ r. ⌜ Shaped (self .0) r ⌝ }
+    {
+        if self.0 < Type::COUNT {
+            SHAPES[self.0 as usize]
+        } else {
+            Shape(Type(0), 0, 0, Found::Nothing, 0, 0)
         }
+    }
+
+    // The type of each lane; a type that is no vector is its own.
+    pub fn lane(self) -> Type
+        ensures { λ r. ⌜ r .0 ≡ lane-of (self .0) ⌝ }
+    {
+        self.shape().0
+    }
+
+    pub fn lanes(self) -> u32
+        ensures { λ r. ⌜ r ≡ lanes-of (self .0) ⌝ }
+    {
+        self.shape().1
     }
 
     // In bytes.
     pub fn width(self) -> u32
-        ensures { λ r. ⌜ r ≡ width-of self ⌝ }
+        ensures { λ r. ⌜ r ≡ width-of (self .0) ⌝ }
     {
-        match self {
-            Type::I8 => 1,
-            Type::I16 => 2,
-            Type::I32 => 4,
-            Type::I64 => 8,
-            Type::F32 => 4,
-            Type::F64 => 8,
-        }
+        self.shape().2
     }
 
-    // The bits of the type's unset value: a zero of this type holds them. A float's are a quiet NaN.
-    pub fn unset_bits(self) -> u64
-        ensures { λ r. ⌜ r ≡ unset-of self ⌝ }
+    // A zero of this type is one constant, or is made in two steps: then this is the type of the first.
+    pub fn step(self) -> Found
+        ensures { λ r. ⌜ number-found r ≡ step-of (self .0) ⌝ }
     {
-        match self {
-            Type::I8 => 0,
-            Type::I16 => 0,
-            Type::I32 => 0,
-            Type::I64 => 0,
-            Type::F32 => 0x7FC0_0000,
-            Type::F64 => 0x7FF8_0000_0000_0000,
-        }
+        self.shape().3
     }
 
-    // The same by the type's number; 0 for a number that names no type.
-    pub fn unset_bits_with(n: u32) -> u64
-        ensures { λ r. ⌜ r ≡ unset-with n ⌝ }
+    // The bits of the type's unset value: a zero of this type holds them. In each lane of a float they are a quiet NaN.
+    pub fn unset_bits(self) -> Bits
+        ensures { λ r. ⌜ Unset (self .0) (r .low) (r .high) ⌝ }
     {
-        match Type::from_number(n) {
-            Found::Is(t) => t.unset_bits(),
-            Found::Nothing => 0,
+        let s = self.shape();
+        Bits {
+            low: s.4,
+            high: s.5,
         }
     }
 }
@@ -170,7 +259,7 @@ pub const CALLS: u32 = 16384;
 // The rooms that follow, as specs/Limits.antt works them out and says why.
 pub const ZERO_ROOM: usize = BLOCKS as usize * VARIABLES as usize;
 
-pub const VALUE_ROOM: usize = MADE as usize + 2 * ZERO_ROOM;
+pub const VALUE_ROOM: usize = MADE as usize + 3 * ZERO_ROOM;
 
 pub const WAIT_ROOM: usize = VARIABLES as usize;
 
