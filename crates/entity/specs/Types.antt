@@ -147,6 +147,10 @@ number-found Found.Nothing = none
 abbrev pub known-number : ℕ → Option ℕ
 known-number n = cond (ltb n type-count) (some n) none
 
+abbrev pub plus-one : Option ℕ → ℕ
+plus-one none = 0
+plus-one (some n) = suc n
+
 -- the unset value of type n has these low 64 bits and these above them
 pub record Unset (n low high : ℕ) : Type 0 where
   pub below : low ≡ unset-of n % 2 ^ 64
@@ -154,10 +158,10 @@ pub record Unset (n low high : ℕ) : Type 0 where
 
 -- all that there is to know of type n
 pub record Shaped (n : ℕ) (r : Shape) : Type 0 where
-  pub lane : r .0 .0 ≡ lane-of n
+  pub lane : r .0 ≡ lane-of n
   pub lanes : r .1 ≡ lanes-of n
   pub width : r .2 ≡ width-of n
-  pub step : number-found (r .3) ≡ step-of n
+  pub step : r .3 ≡ plus-one (step-of n)
   pub unset : Unset n (r .4) (r .5)
 
 -- The quiet NaN of a float that has e bits of exponent above f bits of fraction, bit by bit.

@@ -35,9 +35,9 @@ pub enum Found {
     Nothing,
 }
 
-// What there is to know of a type: its lane's type (its own, unless it is a vector), how many lanes it has, its width in bytes, the type of the value that its
-// zero is made from where it takes two steps, and the unset value's bits, the low 64 and the high 64.
-struct Shape(Type, u32, u32, Found, u64, u64);
+// What there is to know of a type: the number of its lane's type (its own, unless it is a vector); how many lanes it has; its width in bytes; where its zero
+// takes two steps, the number of the first one's type plus one, else 0; the bits of its unset value, the low 64 and the high 64.
+struct Shape(u32, u32, u32, u32, u64, u64);
 
 // Quiet NaNs side by side, in 64 bits.
 const QUIET_16: u64 = 0x7E00_7E00_7E00_7E00;
@@ -48,31 +48,31 @@ const QUIET_64: u64 = 0x7FF8_0000_0000_0000;
 
 // The types, in the order of their numbers: to add one, write its line here and in specs/Types.antt, its name and the count below.
 const SHAPES: [Shape; Type::COUNT as usize] = [
-    Shape(Type::I8, 1, 1, Found::Nothing, 0, 0), // I8
-    Shape(Type::I16, 1, 2, Found::Nothing, 0, 0), // I16
-    Shape(Type::I32, 1, 4, Found::Nothing, 0, 0), // I32
-    Shape(Type::I64, 1, 8, Found::Nothing, 0, 0), // I64
-    Shape(Type::F32, 1, 4, Found::Nothing, 0x7FC0_0000, 0), // F32
-    Shape(Type::F64, 1, 8, Found::Nothing, QUIET_64, 0), // F64
-    Shape(Type::I128, 1, 16, Found::Is(Type::I64), 0, 0), // I128
-    Shape(Type::F16, 1, 2, Found::Nothing, 0x7E00, 0), // F16
-    Shape(Type::F128, 1, 16, Found::Nothing, 0, 0x7FFF_8000_0000_0000), // F128
-    Shape(Type::I8, 2, 2, Found::Nothing, 0, 0), // I8X2
-    Shape(Type::I8, 4, 4, Found::Nothing, 0, 0), // I8X4
-    Shape(Type::I8, 8, 8, Found::Nothing, 0, 0), // I8X8
-    Shape(Type::I8, 16, 16, Found::Nothing, 0, 0), // I8X16
-    Shape(Type::I16, 2, 4, Found::Nothing, 0, 0), // I16X2
-    Shape(Type::I16, 4, 8, Found::Nothing, 0, 0), // I16X4
-    Shape(Type::I16, 8, 16, Found::Nothing, 0, 0), // I16X8
-    Shape(Type::I32, 2, 8, Found::Nothing, 0, 0), // I32X2
-    Shape(Type::I32, 4, 16, Found::Nothing, 0, 0), // I32X4
-    Shape(Type::I64, 2, 16, Found::Nothing, 0, 0), // I64X2
-    Shape(Type::F16, 2, 4, Found::Is(Type::F16), 0x7E00_7E00, 0), // F16X2
-    Shape(Type::F16, 4, 8, Found::Is(Type::F16), QUIET_16, 0), // F16X4
-    Shape(Type::F16, 8, 16, Found::Is(Type::F16), QUIET_16, QUIET_16), // F16X8
-    Shape(Type::F32, 2, 8, Found::Is(Type::F32), QUIET_32, 0), // F32X2
-    Shape(Type::F32, 4, 16, Found::Is(Type::F32), QUIET_32, QUIET_32), // F32X4
-    Shape(Type::F64, 2, 16, Found::Is(Type::F64), QUIET_64, QUIET_64), // F64X2
+    Shape(Type::I8.0, 1, 1, 0, 0, 0), // I8
+    Shape(Type::I16.0, 1, 2, 0, 0, 0), // I16
+    Shape(Type::I32.0, 1, 4, 0, 0, 0), // I32
+    Shape(Type::I64.0, 1, 8, 0, 0, 0), // I64
+    Shape(Type::F32.0, 1, 4, 0, 0x7FC0_0000, 0), // F32
+    Shape(Type::F64.0, 1, 8, 0, QUIET_64, 0), // F64
+    Shape(Type::I128.0, 1, 16, 1 + Type::I64.0, 0, 0), // I128
+    Shape(Type::F16.0, 1, 2, 0, 0x7E00, 0), // F16
+    Shape(Type::F128.0, 1, 16, 0, 0, 0x7FFF_8000_0000_0000), // F128
+    Shape(Type::I8.0, 2, 2, 0, 0, 0), // I8X2
+    Shape(Type::I8.0, 4, 4, 0, 0, 0), // I8X4
+    Shape(Type::I8.0, 8, 8, 0, 0, 0), // I8X8
+    Shape(Type::I8.0, 16, 16, 0, 0, 0), // I8X16
+    Shape(Type::I16.0, 2, 4, 0, 0, 0), // I16X2
+    Shape(Type::I16.0, 4, 8, 0, 0, 0), // I16X4
+    Shape(Type::I16.0, 8, 16, 0, 0, 0), // I16X8
+    Shape(Type::I32.0, 2, 8, 0, 0, 0), // I32X2
+    Shape(Type::I32.0, 4, 16, 0, 0, 0), // I32X4
+    Shape(Type::I64.0, 2, 16, 0, 0, 0), // I64X2
+    Shape(Type::F16.0, 2, 4, 1 + Type::F16.0, 0x7E00_7E00, 0), // F16X2
+    Shape(Type::F16.0, 4, 8, 1 + Type::F16.0, QUIET_16, 0), // F16X4
+    Shape(Type::F16.0, 8, 16, 1 + Type::F16.0, QUIET_16, QUIET_16), // F16X8
+    Shape(Type::F32.0, 2, 8, 1 + Type::F32.0, QUIET_32, 0), // F32X2
+    Shape(Type::F32.0, 4, 16, 1 + Type::F32.0, QUIET_32, QUIET_32), // F32X4
+    Shape(Type::F64.0, 2, 16, 1 + Type::F64.0, QUIET_64, QUIET_64), // F64X2
 ];
 
 // Up to 128 bits.
@@ -163,7 +163,7 @@ impl Type {
         if self.0 < Type::COUNT {
             SHAPES[self.0 as usize]
         } else {
-            Shape(Type(0), 0, 0, Found::Nothing, 0, 0)
+            Shape(0, 0, 0, 0, 0, 0)
         }
     }
 
@@ -171,7 +171,7 @@ impl Type {
     pub fn lane(self) -> Type
         ensures { λ r. ⌜ r .0 ≡ lane-of (self .0) ⌝ }
     {
-        self.shape().0
+        Type(self.shape().0)
     }
 
     pub fn lanes(self) -> u32
@@ -191,7 +191,12 @@ impl Type {
     pub fn step(self) -> Found
         ensures { λ r. ⌜ number-found r ≡ step-of (self .0) ⌝ }
     {
-        self.shape().3
+        let s = self.shape().3;
+        if s == 0 {
+            Found::Nothing
+        } else {
+            Found::Is(Type(s - 1))
+        }
     }
 
     // The bits of the type's unset value: a zero of this type holds them. In each lane of a float they are a quiet NaN.
