@@ -8,3 +8,4 @@ pub mod Calls
 pub mod Tables
 pub mod Starred
 pub mod Carried
+pub mod Wide

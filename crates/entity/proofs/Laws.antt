@@ -2,14 +2,16 @@
 -- the floats are quiet NaNs: by computation.
 -- Assumes nothing.
 use Prim.Native.Nat.{ℕ, zero, suc, _+_, _-_, _<_, _≤_, _%_, _/_, _^_}
-use mathlib.Core.Path.{_≡_, refl, ap, _∙_}
+use mathlib.Core.Path.{_≡_, refl, ap, _∙_, subst}
 use mathlib.Core.Logic.{_≢_}
-use mathlib.Core.Option.{Option, none, some}
+use mathlib.Core.Bool.{Bool, true, false, cond}
+use mathlib.Core.Option.{Option, none, some, Option·some-injective, Option·none-ne-some}
 use mathlib.Core.List.{List, [], _∷_}
 use native.Mathlib.Omega.{arith}
+use lib.Dec.{ltb, leb, ltb→lt, nltb→le}
 use lib.ListN.{length, getD, List·getD-eq-default}
 use Rattle.entity.specs.Types.{Kind, vector, i8, f16, f32, f64, f128, types, type-count, kind-of, lane-of, lanes-of, width-of, unset-of, step-of}
-use Rattle.entity.specs.Types.{plus-one, Shaped, Quiet-nan}
+use Rattle.entity.specs.Types.{Lane, integer, float, scalar, i64, held-of, scalar-in, step-in, plus-one, Shaped, Quiet-nan}
 use Rattle.entity.specs.declared.Shape.{Shape}
 
 -- a number plus one, where it is not 0, is there
@@ -53,6 +55,36 @@ pub past-table : (n : ℕ) → type-count ≤ n → Shaped n (record { 0 = 0; 1 
 past-table n h =
     let k : kind-of n ≡ vector i8 0 = List·getD-eq-default types (vector i8 0) h in
     record { lane = rw k; lanes = rw k; width = rw k; step = rw k; unset = record { below = rw k; above = rw k } }
+
+-- t is a type, and its zero takes one step
+pub record One-step (t : ℕ) : Type 0 where
+  pub known : t < type-count
+  pub plain : step-of t ≡ none
+
+float-step : (t e f : ℕ) → kind-of t ≡ scalar (float e f) → One-step t
+float-step t e f q = record { known = by (ltb t type-count) refl; plain = rw (q, q) refl }
+  where
+    by : (c : Bool) → ltb t type-count ≡ c → t < type-count
+    by true k = ltb→lt t type-count (rw k tt)
+    by false k =
+        let past : kind-of t ≡ vector i8 0 = List·getD-eq-default types (vector i8 0) (nltb→le t type-count (rw k tt)) in
+        absurd (let z : _≡_ {A = ℕ} 0 1 = cc in omega arith)
+
+-- the first of two steps is plain: 64 bits are not too many, and a lane is a scalar
+pub step-plain : (n t : ℕ) → step-of n ≡ some t → One-step t
+step-plain n t e = by-lane (held-of n) refl e
+  where
+    chosen : (c : Bool) (u : ℕ) → cond c none (some u) ≡ some t → u ≡ t
+    chosen true u k = absurd (Option·none-ne-some t k)
+    chosen false u k = Option·some-injective _ _ k
+
+    by-kind : (k : Kind) (x f : ℕ) → kind-of (lane-of n) ≡ k → scalar-in k ≡ float x f → One-step (lane-of n)
+    by-kind (scalar l) x f q h = float-step (lane-of n) x f (q ∙ ap scalar h)
+    by-kind (vector u k) x f q h = absurd (let z : _≡_ {A = ℕ} 0 1 = cc in omega arith)
+
+    by-lane : (l : Lane) → held-of n ≡ l → step-in (lane-of n) (lanes-of n) l ≡ some t → One-step t
+    by-lane (integer w) h k = subst One-step (chosen (leb w 64) i64 k) (record { known = omega arith; plain = refl })
+    by-lane (float x f) h k = subst One-step (chosen (leb (lanes-of n) 1) (lane-of n) k) (by-kind (kind-of (lane-of n)) x f refl h)
 
 pub quiet-f16 : Quiet-nan 5 10 (unset-of f16)
 quiet-f16 = record { sign = refl; exponent = refl; fraction = refl }

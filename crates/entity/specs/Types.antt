@@ -85,14 +85,14 @@ abbrev pub kind-of : ℕ → Kind
 kind-of n = getD types n (vector i8 0)
 
 -- the number of the lane's type
-abbrev lane-in : ℕ → Kind → ℕ
+abbrev pub lane-in : ℕ → Kind → ℕ
 lane-in n (scalar l) = n
 lane-in n (vector l k) = l
 
 abbrev pub lane-of : ℕ → ℕ
 lane-of n = lane-in n (kind-of n)
 
-abbrev lanes-in : Kind → ℕ
+abbrev pub lanes-in : Kind → ℕ
 lanes-in (scalar l) = 1
 lanes-in (vector l k) = k
 
@@ -100,7 +100,7 @@ abbrev pub lanes-of : ℕ → ℕ
 lanes-of n = lanes-in (kind-of n)
 
 -- what a lane holds
-abbrev scalar-in : Kind → Lane
+abbrev pub scalar-in : Kind → Lane
 scalar-in (scalar l) = l
 scalar-in (vector l k) = integer 0
 
@@ -131,7 +131,7 @@ unset-of n = repeated (lanes-of n) (lane-bits (held-of n)) (unset-lane (held-of 
 
 -- The type of the first of a zero's two steps, if it has two: there is no constant of an integer of more than 64 bits, which is widened, nor of a vector of
 -- floats, which is filled with a scalar.
-abbrev step-in : ℕ → ℕ → Lane → Option ℕ
+abbrev pub step-in : ℕ → ℕ → Lane → Option ℕ
 step-in l k (integer w) = cond (leb w 64) none (some i64)
 step-in l k (float e f) = cond (leb k 1) none (some l)
 

@@ -5,7 +5,7 @@ use mathlib.Core.Bool.{true}
 use mathlib.Core.List.{List, _++_}
 use mathlib.Core.Option.{some}
 use lib.ListN.{length, getD}
-use Rattle.entity.specs.Types.{unset-with}
+use Rattle.entity.specs.Types.{unset-of}
 use Rattle.definition.specs.Session.{Call, session, seal-each, answered}
 use Rattle.definition.specs.Resolve.{Resolved, targets}
 use Rattle.definition.specs.Read.{resolve}
@@ -44,7 +44,7 @@ answers-hold = demand-3
 
 -- The same by bits: each answer holds the bits that its variable last received, or those of its type's unset value.
 pub answers-hold-by-bits : (cs : List Call) → Supposed (session cs) → Faithful-bits (session cs)
-answers-hold-by-bits cs S = answers-hold cs S .0 ℕ unset-with
+answers-hold-by-bits cs S = answers-hold cs S .0 ℕ unset-of
 
 -- So where its variable received nothing on the path, the answer holds `unset-of` the variable's type: 0x7FC0_0000 for F32, 0x7FF8_0000_0000_0000 for F64,
 -- 0 for an integer.
