@@ -26,16 +26,17 @@ is-none (some t) s e z = absurd (omega arith)
 -- the entry of type n
 abbrev entry-of : ℕ → Shape
 entry-of n = record {
-  0 = lane-of n;
-  1 = lanes-of n;
-  2 = width-of n;
-  3 = plus-one (step-of n);
-  4 = unset-of n % 2 ^ 64;
-  5 = unset-of n / 2 ^ 64;
+  0 = n;
+  1 = lane-of n;
+  2 = lanes-of n;
+  3 = width-of n;
+  4 = plus-one (step-of n);
+  5 = unset-of n % 2 ^ 64;
+  6 = unset-of n / 2 ^ 64;
 }
 
 entry-shaped : (n : ℕ) → Shaped n (entry-of n)
-entry-shaped n = record { lane = refl; lanes = refl; width = refl; step = refl; unset = record { below = refl; above = refl } }
+entry-shaped n = record { number = refl; lane = refl; lanes = refl; width = refl; step = refl; unset = record { below = refl; above = refl } }
 
 -- one entry for each of these types, numbered from i on
 abbrev entries : ℕ → List Kind → List Shape
@@ -51,10 +52,10 @@ pub in-table : (d : Shape) (n : ℕ) → n < type-count → Shaped n (getD (entr
 in-table d n h = let here : 0 + n ≡ n = omega arith in rw (among d types 0 n h, here) (entry-shaped n)
 
 -- past the table nothing is known
-pub past-table : (n : ℕ) → type-count ≤ n → Shaped n (record { 0 = 0; 1 = 0; 2 = 0; 3 = 0; 4 = 0; 5 = 0 })
+pub past-table : (n : ℕ) → type-count ≤ n → Shaped n (record { 0 = n; 1 = 0; 2 = 0; 3 = 0; 4 = 0; 5 = 0; 6 = 0 })
 past-table n h =
     let k : kind-of n ≡ vector i8 0 = List·getD-eq-default types (vector i8 0) h in
-    record { lane = rw k; lanes = rw k; width = rw k; step = rw k; unset = record { below = rw k; above = rw k } }
+    record { number = refl; lane = rw k; lanes = rw k; width = rw k; step = rw k; unset = record { below = rw k; above = rw k } }
 
 -- t is a type, and its zero takes one step
 pub record One-step (t : ℕ) : Type 0 where

@@ -158,11 +158,12 @@ pub record Unset (n low high : ℕ) : Type 0 where
 
 -- all that there is to know of type n
 pub record Shaped (n : ℕ) (r : Shape) : Type 0 where
-  pub lane : r .0 ≡ lane-of n
-  pub lanes : r .1 ≡ lanes-of n
-  pub width : r .2 ≡ width-of n
-  pub step : r .3 ≡ plus-one (step-of n)
-  pub unset : Unset n (r .4) (r .5)
+  pub number : r .0 ≡ n
+  pub lane : r .1 ≡ lane-of n
+  pub lanes : r .2 ≡ lanes-of n
+  pub width : r .3 ≡ width-of n
+  pub step : r .4 ≡ plus-one (step-of n)
+  pub unset : Unset n (r .5) (r .6)
 
 -- The quiet NaN of a float that has e bits of exponent above f bits of fraction, bit by bit.
 pub record Quiet-nan (e f bits : ℕ) : Type 0 where

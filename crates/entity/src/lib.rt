@@ -35,44 +35,48 @@ pub enum Found {
     Nothing,
 }
 
-// What there is to know of a type: the number of its lane's type (its own, unless it is a vector); how many lanes it has; its width in bytes; where its zero
-// takes two steps, the number of the first one's type plus one, else 0; the bits of its unset value, the low 64 and the high 64.
-struct Shape(u32, u32, u32, u32, u64, u64);
+// What there is to know of a type: its number; the number of its lane's type (its own, unless it is a vector); how many lanes it has; its width in bytes; where
+// its zero takes two steps, the number of the first one's type plus one, else 0; the bits of its unset value, the low 64 and the high 64.
+struct Shape(u32, u32, u32, u32, u32, u64, u64);
 
-// Quiet NaNs side by side, in 64 bits.
-const QUIET_16: u64 = 0x7E00_7E00_7E00_7E00;
+// Quiet NaNs side by side: two of 16 bits; then 64 bits of four, of two of 32, of one of 64, and the top of one of 128.
+const D16: u64 = 0x7E00_7E00;
 
-const QUIET_32: u64 = 0x7FC0_0000_7FC0_0000;
+const Q16: u64 = 0x7E00_7E00_7E00_7E00;
 
-const QUIET_64: u64 = 0x7FF8_0000_0000_0000;
+const Q32: u64 = 0x7FC0_0000_7FC0_0000;
+
+const Q64: u64 = 0x7FF8_0000_0000_0000;
+
+const Q128: u64 = 0x7FFF_8000_0000_0000;
 
 // The types, in the order of their numbers: to add one, write its line here and in specs/Types.antt, its name and the count below.
 const SHAPES: [Shape; Type::COUNT as usize] = [
-    Shape(Type::I8.0, 1, 1, 0, 0, 0), // I8
-    Shape(Type::I16.0, 1, 2, 0, 0, 0), // I16
-    Shape(Type::I32.0, 1, 4, 0, 0, 0), // I32
-    Shape(Type::I64.0, 1, 8, 0, 0, 0), // I64
-    Shape(Type::F32.0, 1, 4, 0, 0x7FC0_0000, 0), // F32
-    Shape(Type::F64.0, 1, 8, 0, QUIET_64, 0), // F64
-    Shape(Type::I128.0, 1, 16, 1 + Type::I64.0, 0, 0), // I128
-    Shape(Type::F16.0, 1, 2, 0, 0x7E00, 0), // F16
-    Shape(Type::F128.0, 1, 16, 0, 0, 0x7FFF_8000_0000_0000), // F128
-    Shape(Type::I8.0, 2, 2, 0, 0, 0), // I8X2
-    Shape(Type::I8.0, 4, 4, 0, 0, 0), // I8X4
-    Shape(Type::I8.0, 8, 8, 0, 0, 0), // I8X8
-    Shape(Type::I8.0, 16, 16, 0, 0, 0), // I8X16
-    Shape(Type::I16.0, 2, 4, 0, 0, 0), // I16X2
-    Shape(Type::I16.0, 4, 8, 0, 0, 0), // I16X4
-    Shape(Type::I16.0, 8, 16, 0, 0, 0), // I16X8
-    Shape(Type::I32.0, 2, 8, 0, 0, 0), // I32X2
-    Shape(Type::I32.0, 4, 16, 0, 0, 0), // I32X4
-    Shape(Type::I64.0, 2, 16, 0, 0, 0), // I64X2
-    Shape(Type::F16.0, 2, 4, 1 + Type::F16.0, 0x7E00_7E00, 0), // F16X2
-    Shape(Type::F16.0, 4, 8, 1 + Type::F16.0, QUIET_16, 0), // F16X4
-    Shape(Type::F16.0, 8, 16, 1 + Type::F16.0, QUIET_16, QUIET_16), // F16X8
-    Shape(Type::F32.0, 2, 8, 1 + Type::F32.0, QUIET_32, 0), // F32X2
-    Shape(Type::F32.0, 4, 16, 1 + Type::F32.0, QUIET_32, QUIET_32), // F32X4
-    Shape(Type::F64.0, 2, 16, 1 + Type::F64.0, QUIET_64, QUIET_64), // F64X2
+    Shape(Type::I8.0, Type::I8.0, 1, 1, 0, 0, 0),
+    Shape(Type::I16.0, Type::I16.0, 1, 2, 0, 0, 0),
+    Shape(Type::I32.0, Type::I32.0, 1, 4, 0, 0, 0),
+    Shape(Type::I64.0, Type::I64.0, 1, 8, 0, 0, 0),
+    Shape(Type::F32.0, Type::F32.0, 1, 4, 0, 0x7FC0_0000, 0),
+    Shape(Type::F64.0, Type::F64.0, 1, 8, 0, Q64, 0),
+    Shape(Type::I128.0, Type::I128.0, 1, 16, 1 + Type::I64.0, 0, 0),
+    Shape(Type::F16.0, Type::F16.0, 1, 2, 0, 0x7E00, 0),
+    Shape(Type::F128.0, Type::F128.0, 1, 16, 0, 0, Q128),
+    Shape(Type::I8X2.0, Type::I8.0, 2, 2, 0, 0, 0),
+    Shape(Type::I8X4.0, Type::I8.0, 4, 4, 0, 0, 0),
+    Shape(Type::I8X8.0, Type::I8.0, 8, 8, 0, 0, 0),
+    Shape(Type::I8X16.0, Type::I8.0, 16, 16, 0, 0, 0),
+    Shape(Type::I16X2.0, Type::I16.0, 2, 4, 0, 0, 0),
+    Shape(Type::I16X4.0, Type::I16.0, 4, 8, 0, 0, 0),
+    Shape(Type::I16X8.0, Type::I16.0, 8, 16, 0, 0, 0),
+    Shape(Type::I32X2.0, Type::I32.0, 2, 8, 0, 0, 0),
+    Shape(Type::I32X4.0, Type::I32.0, 4, 16, 0, 0, 0),
+    Shape(Type::I64X2.0, Type::I64.0, 2, 16, 0, 0, 0),
+    Shape(Type::F16X2.0, Type::F16.0, 2, 4, 1 + Type::F16.0, D16, 0),
+    Shape(Type::F16X4.0, Type::F16.0, 4, 8, 1 + Type::F16.0, Q16, 0),
+    Shape(Type::F16X8.0, Type::F16.0, 8, 16, 1 + Type::F16.0, Q16, Q16),
+    Shape(Type::F32X2.0, Type::F32.0, 2, 8, 1 + Type::F32.0, Q32, 0),
+    Shape(Type::F32X4.0, Type::F32.0, 4, 16, 1 + Type::F32.0, Q32, Q32),
+    Shape(Type::F64X2.0, Type::F64.0, 2, 16, 1 + Type::F64.0, Q64, Q64),
 ];
 
 // Up to 128 bits.
@@ -163,7 +167,7 @@ impl Type {
         if self.0 < Type::COUNT {
             SHAPES[self.0 as usize]
         } else {
-            Shape(0, 0, 0, 0, 0, 0)
+            Shape(self.0, 0, 0, 0, 0, 0, 0)
         }
     }
 
@@ -171,27 +175,27 @@ impl Type {
     pub fn lane(self) -> Type
         ensures { λ r. ⌜ r .0 ≡ lane-of (self .0) ⌝ }
     {
-        Type(self.shape().0)
+        Type(self.shape().1)
     }
 
     pub fn lanes(self) -> u32
         ensures { λ r. ⌜ r ≡ lanes-of (self .0) ⌝ }
     {
-        self.shape().1
+        self.shape().2
     }
 
     // In bytes.
     pub fn width(self) -> u32
         ensures { λ r. ⌜ r ≡ width-of (self .0) ⌝ }
     {
-        self.shape().2
+        self.shape().3
     }
 
     // A zero of this type is one constant, or is made in two steps: then this is the type of the first.
     pub fn step(self) -> Found
         ensures { λ r. ⌜ number-found r ≡ step-of (self .0) ⌝ }
     {
-        let s = self.shape().3;
+        let s = self.shape().4;
         if s == 0 {
             Found::Nothing
         } else {
@@ -205,8 +209,8 @@ impl Type {
     {
         let s = self.shape();
         Bits {
-            low: s.4,
-            high: s.5,
+            low: s.5,
+            high: s.6,
         }
     }
 }

@@ -51,7 +51,7 @@ answers-hold-by-bits cs S = answers-hold cs S .0 ℕ unset-of
 pub unset-shows : (cs : List Call) → Supposed (session cs) → Unset-shows (session cs)
 unset-shows cs S = shows (session cs) (answers-hold-by-bits cs S)
 
--- In every session each zero and each variable has a known type, and these are the bits of that type's unset value.
+-- In every session each value of sort zero, a first step too, and each variable has a known type, and these are the bits of that type's unset value.
 pub zeros-have-bits : (cs : List Call) → Zeros-typed (session cs)
 zeros-have-bits = zeros-typed
 
@@ -116,7 +116,7 @@ callers-stay = still-caller
 pub values-stay : (cs ds : List Call) (x : ℕ) → x < session cs .form .next → session (cs ++ ds) .form .info x ≡ session cs .form .info x
 values-stay cs ds = from-then cs ds .info
 
--- A variable causes at most one parameter and one zero per block.
+-- A variable causes at most one parameter and one zero per block, the zero in at most two steps, of which the first stands directly before it.
 pub causes-once : (cs : List Call) → Once (session cs .graph) (session cs .form)
 causes-once cs = holds cs .once
 
