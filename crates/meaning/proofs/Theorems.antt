@@ -5,13 +5,13 @@ use mathlib.Core.Bool.{true}
 use mathlib.Core.List.{List, _++_, map}
 use mathlib.Core.Option.{some}
 use lib.ListN.{length, getD}
-use Rattle.entity.specs.Types.{zero-with}
+use Rattle.entity.specs.Types.{unset-of}
 use Rattle.definition.specs.Session.{Call, session, seal-each, answered}
 use Rattle.definition.specs.Resolve.{Resolved, targets}
 use Rattle.definition.specs.Read.{resolve}
 use Rattle.definition.specs.Base.{_∷ʳ_}
 use Rattle.meaning.specs.Path.{Supposed, Counted, None-late, In, given, callers, Right, Mem, res, enter}
-use Rattle.meaning.specs.Bits.{Faithful-bits, Zeros-typed}
+use Rattle.meaning.specs.Bits.{Faithful-bits, Unset-shows, Zeros-typed}
 use Rattle.meaning.specs.Turns.{Scheduled}
 use Rattle.meaning.specs.Answers.{Answered}
 use Rattle.meaning.specs.Stored.{Stored}
@@ -27,7 +27,7 @@ use Rattle.meaning.proofs.Rooms.{fed-always, given-first, given-few, gi
 use Rattle.meaning.proofs.Steady.{calls-count, logged}
 use Rattle.meaning.proofs.Turns.{scheduled, scheduled-all}
 use Rattle.meaning.proofs.Demand.{demand-3, counted-right}
-use Rattle.meaning.proofs.Bits.{zeros-typed}
+use Rattle.meaning.proofs.Bits.{shows, zeros-typed}
 use Rattle.meaning.proofs.Answers.{answered-one}
 use Rattle.meaning.proofs.Holds.{holds, still-caller}
 use Rattle.meaning.proofs.Sure.{sure, from-then}
@@ -40,16 +40,21 @@ use Rattle.meaning.proofs.Unmarked.{marks-silent}
 
 -- ---- demand 3
 
--- On every path each use's answer, aliases resolved, holds what its variable last received, or zero; and every destination has an argument for each parameter
--- of its block: where all is as `Supposed` lists.
+-- On every path each use's answer, aliases resolved, holds what its variable last received, or its type's unset value; and every destination has an
+-- argument for each parameter of its block: where all is as `Supposed` lists. Whatever the words are, and whatever the unset value of each type.
 pub answers-hold : (cs : List Call) → Supposed (session cs) → Right (session cs)
 answers-hold = demand-3
 
--- The same by bits: each answer holds the bits that its variable last received, or those of its type's zero.
+-- The same by bits: each answer holds the bits that its variable last received, or those of its type's unset value.
 pub answers-hold-by-bits : (cs : List Call) → Supposed (session cs) → Faithful-bits (session cs)
-answers-hold-by-bits cs S = answers-hold cs S .0 ℕ zero-with
+answers-hold-by-bits cs S = answers-hold cs S .0 ℕ unset-of
 
--- In every session each zero and each variable has a known type, and these are the bits of that type's zero.
+-- So where its variable received nothing on the path, the answer holds `unset-of` the variable's type: 0x7FC0_0000 for F32, 0x7FF8_0000_0000_0000 for F64,
+-- 0 for an integer.
+pub unset-shows : (cs : List Call) → Supposed (session cs) → Unset-shows (session cs)
+unset-shows cs S = shows (session cs) (answers-hold-by-bits cs S)
+
+-- In every session each value of sort zero, a first step too, and each variable has a known type, and these are the bits of that type's unset value.
 pub zeros-have-bits : (cs : List Call) → Zeros-typed (session cs)
 zeros-have-bits = zeros-typed
 
@@ -114,7 +119,7 @@ callers-stay = still-caller
 pub values-stay : (cs ds : List Call) (x : ℕ) → x < session cs .form .next → session (cs ++ ds) .form .info x ≡ session cs .form .info x
 values-stay cs ds = from-then cs ds .info
 
--- A variable causes at most one parameter and one zero per block.
+-- A variable causes at most one parameter and one zero per block, the zero in at most two steps, of which the first stands directly before it.
 pub causes-once : (cs : List Call) → Once (session cs .graph) (session cs .form)
 causes-once cs = holds cs .once
 

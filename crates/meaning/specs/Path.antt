@@ -115,7 +115,7 @@ module _ (t : State) where
     pub own-values : Own-values
     pub own-counts : Own-counts
 
--- Words that values hold, and the zero of each type.
+-- Words that values hold, and the unset value of each type.
 module _ (W : Type 0) (null : ℕ → W) (t : State) where
   abbrev pub res : ℕ → ℕ
   res x = resolve (t .form) x
@@ -163,7 +163,7 @@ module _ (W : Type 0) (null : ℕ → W) (t : State) where
         → At fresh any (p ∷ bs) (getD (t .graph .dests p) i 0)
         (enter (getD (t .graph .dests p) i 0) (t .form .args p i) (do-acts (fresh (length bs)) (acts p (t .done)) m))
 
-  -- each use's answer, aliases resolved, holds at that use what its variable last received, or zero
+  -- each use's answer, aliases resolved, holds at that use what its variable last received, or its type's unset value
   abbrev pub Faithful : Type 0
   Faithful = (fresh : ℕ → ℕ → W) (any : ℕ → W) (bs : List ℕ) (b : ℕ) (m : Mem) → At fresh any bs b m
       → (before after : List Act) (v x : ℕ) → acts b (t .done) ≡ before ++ uses v x ∷ after
