@@ -15,7 +15,7 @@ extern "C" {
 #endif
 
 /* The interface that this header is for. Ask sangvireb_fits() once before anything else. */
-enum { SANGVIREB_VERSION = 1 };
+enum { SANGVIREB_VERSION = 3 };
 
 /* Limits, and the lengths that the three lists of tables need. The answers need a cell a call. */
 enum {
@@ -160,6 +160,16 @@ typedef struct {
  * but 0 the length is 0 and the buffer stays as it was. */
 sangvireb_drawn sangvireb_draw(const uint32_t *graph, size_t graph_len, const uint32_t *form, size_t form_len, char *buffer,
                                size_t buffer_len);
+
+/* The bits of a type's unset value, in the lowest bits of the answer, by the type's number: what a variable of that type holds where it has received nothing,
+ * and what each zero of that type holds. No bit is set for an integer; for a float they are a quiet NaN, 0x7FC00000 or 0x7FF8000000000000. A number
+ * that names no type gets 0. */
+uint64_t sangvireb_unset_bits(uint32_t type);
+
+/* The same of a value of sort SANGVIREB_SORT_ZERO in a finished session's `form`: the bits that it holds wherever its block begins. */
+static inline uint64_t sangvireb_zero_bits(const uint32_t *form, uint32_t value) {
+    return sangvireb_unset_bits(SANGVIREB_TYPE_OF(form[SANGVIREB_DESCRIBED + value]));
+}
 
 /* What the linked library was built for, by these places; 0 for any other place. */
 enum {

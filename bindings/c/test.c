@@ -92,6 +92,25 @@ int main(void) {
     r = sangvireb_session(k, N, x, N, y, N, z, N, codes, N, numbers, N, NULL, 0, form, SANGVIREB_FORM_NEED, work, SANGVIREB_WORK_NEED);
     expect(r == SANGVIREB_SHORT, "no graph at all is too short");
 
+    /* a float of each width and an integer, used where nothing has set them: values 1, 3 and 5 are their zeros */
+    static const uint32_t unset[][4] = {{1, 0, 0, 0}, {2, 0, SANGVIREB_TYPE_F32, 0}, {2, 1, SANGVIREB_TYPE_F64, 0}, {2, 2, SANGVIREB_TYPE_I64, 0},
+                                        {11, 0, 0, 0}, {6, 0, 0, 0}, {6, 1, 0, 0}, {6, 2, 0, 0}};
+    enum { M = sizeof unset / sizeof unset[0] };
+    for (size_t i = 0; i < M; i++) {
+        k[i] = unset[i][0], x[i] = unset[i][1], y[i] = unset[i][2], z[i] = unset[i][3];
+    }
+    r = sangvireb_session(k, M, x, M, y, M, z, M, codes, M, numbers, M, graph, SANGVIREB_GRAPH_NEED, form, SANGVIREB_FORM_NEED, work,
+                          SANGVIREB_WORK_NEED);
+    static const uint64_t due[] = {0x7FC00000, 0x7FF8000000000000, 0};
+    for (uint32_t v = 0; v < 3; v++) {
+        uint32_t zero = numbers[M - 3 + v];
+        expect(r == SANGVIREB_RUN && SANGVIREB_SORT_OF(form[SANGVIREB_DESCRIBED + zero]) == SANGVIREB_SORT_ZERO && zero == 2 * v + 1,
+               "a variable that nothing has set is answered a zero");
+        expect(sangvireb_zero_bits(form, zero) == due[v], "a zero holds its type's unset value, for a float a quiet NaN");
+    }
+    expect(sangvireb_unset_bits(SANGVIREB_TYPE_I8) == 0 && sangvireb_unset_bits(6) == 0 && sangvireb_unset_bits(UINT32_MAX) == 0,
+           "an integer's unset value is 0, and so is that of no type");
+
     const uint32_t targets[] = {1, 2, 2, 4, 3, 9};
     sangvireb_answer a = sangvireb_resolve(targets, 6, 0);
     expect(a.code == 0 && a.number == 2, "0 resolves to 2");

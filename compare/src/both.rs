@@ -1,6 +1,7 @@
 //! One list, run by the library and by the oracle, and every cell compared.
 use crate::cells;
 use crate::expected::Expected;
+use lists::finished::Finished;
 use lists::lent::Lent;
 use lists::rng::Rng;
 use lists::{Call, MAX_CALLS};
@@ -58,7 +59,7 @@ impl Both {
             return Some(why);
         }
         self.expected.accepted(calls);
-        self.differing_cell().or_else(|| self.differing_row())
+        self.differing_cell().or_else(|| self.differing_row()).or_else(|| self.differing_bits(calls))
     }
 
     /// Too many calls: answer 2, and everything as it was.
@@ -81,6 +82,14 @@ impl Both {
             let due: &[u32] = self.expected.rows.get(&asked).map_or(&[], |list| list);
             (row != due || code != 0).then(|| format!("{asked:?}: the oracle has {due:?}, the library {row:?} with code {code}"))
         })
+    }
+
+    /// The zeros in the library's tables and what it tells of their types, beside the oracle's zeros with the bits that the rules give them.
+    fn differing_bits(&self, calls: &[Call]) -> Option<String> {
+        let session = Finished::of(calls, &self.lent);
+        let zeros = (0..session.values()).filter(|&value| session.sort(value) == 2);
+        let bits: Vec<(usize, u64)> = zeros.map(|value| (value as usize, raw::unset_bits(session.type_of(value)))).collect();
+        (bits != self.expected.bits).then(|| format!("bits of zeros: the oracle has {:x?}, the library {bits:x?}", self.expected.bits))
     }
 
     fn differing_cell(&self) -> Option<String> {
@@ -141,5 +150,15 @@ mod tests {
         assert_eq!(both.difference(&[[1, 0, 0, 0], [2, 0, 2, 0], [6, 0, 0, 0]]), None);
         both.expected.rows.insert(Asked::Params(Block(0)), vec![]);
         assert_eq!(both.differing_row().expect("it differs"), "Params(Block(0)): the oracle has [], the library [0] with code 0");
+    }
+
+    #[test]
+    fn a_zero_with_other_bits_is_a_difference() {
+        let mut both = Both::new(8);
+        let calls = [[1, 0, 0, 0], [2, 0, 4, 0], [11, 0, 0, 0], [6, 0, 0, 0]];
+        assert_eq!(both.difference(&calls), None);
+        assert_eq!(both.expected.bits, [(1, 0x7fc0_0000)]);
+        both.expected.bits[0].1 = 0;
+        assert_eq!(both.differing_bits(&calls).expect("it differs"), "bits of zeros: the oracle has [(1, 0)], the library [(1, 7fc00000)]");
     }
 }

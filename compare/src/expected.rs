@@ -12,12 +12,14 @@ pub struct Expected {
     work: Vec<u32>,
     /// the lists of parameters and arguments that the oracle names
     pub rows: HashMap<Asked, Vec<u32>>,
+    /// the zeros that the oracle names, with their bits
+    pub bits: Vec<(usize, u64)>,
 }
 
 impl Expected {
     pub fn new() -> Expected {
         let (graph, form, work) = (vec![0; GRAPH_NEED], vec![0; FORM_NEED], vec![0; WORK_NEED]);
-        Expected { codes: vec![], numbers: vec![], graph, form, work, rows: HashMap::new() }
+        Expected { codes: vec![], numbers: vec![], graph, form, work, rows: HashMap::new(), bits: vec![] }
     }
 
     /// In the order in which the tables are lent.
@@ -29,6 +31,7 @@ impl Expected {
         self.graph.fill(0);
         self.form.fill(0);
         self.rows.clear();
+        self.bits.clear();
         for answers in [&mut self.codes, &mut self.numbers] {
             answers.clear();
             answers.resize(calls, 0);
@@ -38,9 +41,17 @@ impl Expected {
             let (letter, rest) = line.split_at(1);
             numbers.clear();
             numbers.extend(rest.split_ascii_whitespace().map(|word| word.parse().unwrap_or(usize::MAX)));
-            self.line(letter, &numbers).ok_or_else(|| format!("the oracle printed a line that is not understood: {line}"))?;
+            let understood = if letter == "K" { self.bits_line(rest) } else { self.line(letter, &numbers) };
+            understood.ok_or_else(|| format!("the oracle printed a line that is not understood: {line}"))?;
         }
         Ok(())
+    }
+
+    /// A zero and its bits in hexadecimal.
+    fn bits_line(&mut self, rest: &str) -> Option<()> {
+        let (value, bits) = rest.trim().split_once(' ')?;
+        self.bits.push((value.parse().ok()?, u64::from_str_radix(bits, 16).ok()?));
+        Some(())
     }
 
     fn line(&mut self, letter: &str, n: &[usize]) -> Option<()> {

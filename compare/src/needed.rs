@@ -58,7 +58,7 @@ impl Walker for Guided {
         Some(place)
     }
 
-    /// Zero is 0, so these differ from it and from each other.
+    /// The unset value of I32 is 0, so these differ from it and from each other.
     fn content(&mut self, of: Content) -> u64 {
         match of {
             Content::Unset => 1,

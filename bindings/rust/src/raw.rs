@@ -6,7 +6,7 @@
 use crate::{library, Block, Branch, Kind, Sort, Type};
 
 /// The version of the library's calls that this package was written for.
-pub const VERSION: u32 = 1;
+pub const VERSION: u32 = 3;
 
 /// Blocks in a session.
 pub const BLOCKS: usize = 64;
@@ -168,6 +168,7 @@ extern "C" {
         buffer: *mut u8,
         buffer_len: usize,
     ) -> Drawn;
+    fn sangvireb_unset_bits(ty: u32) -> u64;
     fn sangvireb_limit(which: u32) -> u32;
 }
 
@@ -283,6 +284,18 @@ pub fn draw(graph: &[u32], form: &[u32], buffer: &mut [u8]) -> (u32, usize) {
     // checker keeps the buffer, which alone is written, apart from the tables.
     let drawn = unsafe { sangvireb_draw(graph.as_ptr(), graph.len(), form.as_ptr(), form.len(), buffer.as_mut_ptr(), buffer.len()) };
     (drawn.code, drawn.length)
+}
+
+/// The bits of a type's unset value, by the type's number: what a zero of that type holds. They stand lowest, and 0 above them; a number that names no type
+/// gets 0.
+///
+/// # Panics
+///
+/// If the library that is linked was built for other limits ([`check`](crate::check)).
+pub fn unset_bits(ty: u32) -> u64 {
+    library::must_fit();
+    // SAFETY: a number in, a number out; the proved contract has no precondition.
+    unsafe { sangvireb_unset_bits(ty) }
 }
 
 /// What the library tells of itself: `which` counts the rows of [`TOLD`]; past them it answers 0.

@@ -23,6 +23,14 @@ pub struct ValueData {
     pub target: Value,
 }
 
+impl ValueData {
+    /// The bits that a zero holds wherever its block begins: those of its type's unset value ([`Type::unset_bits`]). Nothing for a value of another
+    /// sort, whose contents no session knows.
+    pub fn unset_bits(&self) -> Option<u64> {
+        (self.sort == Sort::Zero).then(|| self.ty.unset_bits())
+    }
+}
+
 /// One destination of a branch.
 #[derive(Clone, Debug)]
 pub struct Destination<'a> {
@@ -194,7 +202,8 @@ impl Session {
         Value(end)
     }
 
-    /// The zeros that stand at the start of the block, by number: each holds the zero of its type wherever the block begins.
+    /// The zeros that stand at the start of the block, by number: each holds its type's unset value wherever the block begins
+    /// ([`unset_bits`](ValueData::unset_bits)).
     pub fn zeros(&self, block: Block) -> Result<impl Iterator<Item = ValueData> + '_, Refused> {
         self.block(block)?;
         Ok(self.values().filter(move |data| data.sort == Sort::Zero && data.block == block))

@@ -29,7 +29,8 @@ impl Session {
         writeln!(f, "{block}: {sealed}{after}{takes}")?;
         for data in self.values().filter(|data| data.block == block) {
             let end = Some(self.end_of(data.value)).filter(|end| *end != data.value);
-            writeln!(f, "  {}: {}, {}{}", data.value, data.ty, data.sort, words(", now ", end.into_iter()))?;
+            let bits = data.unset_bits().map_or(String::new(), |bits| format!(" with bits {bits:#x}"));
+            writeln!(f, "  {}: {}, {}{bits}{}", data.value, data.ty, data.sort, words(", now ", end.into_iter()))?;
         }
         for variable in self.variables() {
             if let Some(value) = known(self.def(variable, block))? {

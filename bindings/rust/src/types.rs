@@ -1,4 +1,5 @@
 //! The numbered sets of the calls and tables: kinds of call, types and sorts of value.
+use crate::raw;
 use std::fmt;
 
 macro_rules! numbered {
@@ -99,9 +100,14 @@ impl Type {
         }
     }
 
-    /// The bits of the type's zero: none is set, in any of the six.
-    pub fn zero_bits(self) -> u64 {
-        0
+    /// The bits of the type's unset value, in the lowest bits of the answer: what a variable of this type holds where it has received nothing, and what a
+    /// zero of it holds. No bit is set for an integer; for a float they are a quiet NaN. The library tells them.
+    ///
+    /// # Panics
+    ///
+    /// If the library that is linked was built for other limits ([`check`](crate::check)).
+    pub fn unset_bits(self) -> u64 {
+        raw::unset_bits(self.number())
     }
 }
 
@@ -112,6 +118,6 @@ numbered!(
     Made "made",
     /// A parameter of its block.
     Parameter "parameter",
-    /// A zero added at the start of its block, where a variable was read that nothing had set.
+    /// A zero added at the start of its block, where a variable was read that nothing had set. It holds its type's unset value, a NaN for a float.
     Zero "zero",
 );

@@ -1,7 +1,7 @@
 //! What a session is asked for: arguments and answers with aliases resolved, the zeros of a block, branches made whole.
 mod common;
 use common::{branch, builder, code, set, FIRST};
-use sangvireb::{Block, Branch, List, Refusal, Sort, Type, Value, Variable};
+use sangvireb::{Block, Branch, List, Refusal, SSABuilder, Sort, Type, Value, Variable};
 
 #[test]
 fn arguments_and_answers_resolved() {
@@ -60,6 +60,29 @@ fn the_zeros_of_a_block() {
     let zeros: Vec<_> = session.zeros(Block(0)).unwrap().map(|data| (data.value, data.ty, data.sort)).collect();
     assert_eq!(zeros, [(whole, Type::I32, Sort::Zero), (float, Type::F64, Sort::Zero)]);
     assert_eq!(session.zeros(Block(1)).unwrap().count(), 0);
+}
+
+/// The top bit of a NaN's fraction tells a quiet one from a signalling one.
+#[test]
+fn an_unset_float_is_a_quiet_nan() {
+    let mut ssa = SSABuilder::new();
+    ssa.declare_block(Block(0)).unwrap();
+    for (variable, ty) in (0..).zip(Type::ALL) {
+        ssa.declare_var(Variable(variable), ty).unwrap();
+    }
+    ssa.seal_all_blocks().unwrap();
+    let answers = [0, 1, 2, 3, 4, 5].map(|variable| ssa.use_var(Variable(variable), Block(0)).unwrap());
+    let made = ssa.make_value(Block(0), Type::F32).unwrap();
+    let session = ssa.session();
+    let bits = |value| session.value(value).unwrap().unset_bits();
+    let [i8, i16, i32, i64, short, long] = answers.map(|value| bits(value).expect("each answer is a zero"));
+    assert_eq!([i8, i16, i32, i64], [0; 4]);
+    let (short, long) = (f32::from_bits(short.try_into().unwrap()), f64::from_bits(long));
+    assert!(short.is_nan() && short.is_sign_positive() && short.to_bits() & 1 << 22 != 0, "{:x}", short.to_bits());
+    assert!(long.is_nan() && long.is_sign_positive() && long.to_bits() & 1 << 51 != 0, "{:x}", long.to_bits());
+    assert_eq!((short.to_bits(), long.to_bits()), (0x7FC0_0000, 0x7FF8_0000_0000_0000));
+    assert_eq!(bits(made), None);
+    assert!(session.to_string().contains(": F32, zero with bits 0x7fc00000"), "{session}");
 }
 
 #[test]

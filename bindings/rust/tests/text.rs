@@ -81,7 +81,7 @@ refused: call 2, declare_block of block 5: the next is block 2
 variable 0: I32
 block 0: sealed
   value 0: I32, parameter, now value 1
-  value 1: I32, zero
+  value 1: I32, zero with bits 0x0
   variable 0 is value 0
 block 1: not sealed, takes value 2
   value 2: I32, parameter

@@ -28,10 +28,6 @@ impl<'a> Finished<'a> {
         self.graph[BLOCK_COUNT]
     }
 
-    pub fn variables(&self) -> u32 {
-        self.graph[TYPES]
-    }
-
     pub fn values(&self) -> u32 {
         self.form[VALUE_COUNT]
     }
@@ -69,6 +65,14 @@ impl<'a> Finished<'a> {
     /// 0 made, 1 parameter, 2 zero.
     pub fn sort(&self, value: u32) -> u32 {
         self.described(value).1
+    }
+
+    pub fn type_of(&self, value: u32) -> u32 {
+        self.described(value).0
+    }
+
+    pub fn variable_types(&self) -> &'a [u32] {
+        row(self.graph, TYPES)
     }
 
     /// Its type, sort and block.

@@ -1,6 +1,7 @@
 //! A finished session on a path, as docs/RULES.md says under "On a path", and the suppositions of demand 3.
 //! crates/meaning/specs has both in the words of the proofs: Path.antt and Suppositions.antt.
 use crate::finished::Finished;
+use sangvireb::raw;
 
 /// What a block itself does, in list order.
 #[derive(Clone, Copy)]
@@ -64,11 +65,16 @@ pub struct Met {
     pub block: u32,
     pub var: u32,
     pub answer: u32,
-    /// what the answer, aliases resolved, holds
+    /// the bits that the answer, aliases resolved, holds
     pub holds: u64,
-    /// what the variable last received, or zero
+    /// the bits that the variable last received, or those of its type's unset value
     pub received: u64,
+    /// whether the variable has received nothing on the path
+    pub unset: bool,
 }
+
+/// The bits of each type's unset value, as docs/RULES.md has them. Zeros hold what the library tells; that the two agree is part of what is walked.
+const UNSET: [u64; 6] = [0, 0, 0, 0, 0x7fc0_0000, 0x7ff8_0000_0000_0000];
 
 /// What a value holds that the session does not determine.
 pub enum Content {
@@ -88,13 +94,15 @@ struct Held<'s> {
     session: &'s Finished<'s>,
     values: Vec<u64>,
     vars: Vec<u64>,
+    /// by variable: it has received something
+    given: Vec<bool>,
 }
 
 impl Held<'_> {
     fn set_zeros(&mut self, block: u32) {
         for value in 0..self.values.len() as u32 {
             if self.session.is_zero_of(value, block) {
-                self.values[value as usize] = 0;
+                self.values[value as usize] = raw::unset_bits(self.session.type_of(value));
             }
         }
     }
@@ -108,9 +116,13 @@ impl Held<'_> {
         for act in acts {
             match *act {
                 Act::Makes { value } => self.values[value as usize] = walker.content(Content::Made),
-                Act::Gives { var, value } => self.vars[var as usize] = self.read(value),
+                Act::Gives { var, value } => {
+                    self.vars[var as usize] = self.read(value);
+                    self.given[var as usize] = true;
+                }
                 Act::Uses { var, answer } => {
-                    walker.meet(Met { block, var, answer, holds: self.read(answer), received: self.vars[var as usize] })
+                    let (holds, received, unset) = (self.read(answer), self.vars[var as usize], !self.given[var as usize]);
+                    walker.meet(Met { block, var, answer, holds, received, unset })
                 }
             }
         }
@@ -135,7 +147,9 @@ pub fn walk(session: &Finished, acts: &[Vec<Act>], walker: &mut impl Walker) {
 
 fn walk_by<'s>(session: &'s Finished<'s>, acts: &[Vec<Act>], walker: &mut impl Walker, go: impl Fn(&mut Held<'s>, u32, usize) -> u32) {
     let values = (0..session.values()).map(|_| walker.content(Content::Unset)).collect();
-    let mut held = Held { session, values, vars: vec![0; session.variables() as usize] };
+    let vars: Vec<u64> = session.variable_types().iter().map(|&ty| UNSET[ty as usize]).collect();
+    let given = vec![false; vars.len()];
+    let mut held = Held { session, values, vars, given };
     let mut block = 0;
     held.set_zeros(block);
     loop {

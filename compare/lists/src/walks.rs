@@ -24,7 +24,8 @@ struct Figures {
     /// uses met, by the sort of the value to which the answer resolves
     uses: [u64; 3],
     aliases: u64,
-    zero: u64,
+    /// uses met of a variable that had received nothing, and those of them where it is a float
+    unset: [u64; 2],
 }
 
 struct Random<'a> {
@@ -42,7 +43,7 @@ impl Walker for Random<'_> {
         (!dests.is_empty()).then(|| self.rng.below(dests.len() as u32) as usize)
     }
 
-    /// Two values, or a value and zero, hold the same only by a chance of one in 2 to the 64.
+    /// Two values, or a value and a type's unset value, hold the same only by a chance of one in 2 to the 64.
     fn content(&mut self, _: Content) -> u64 {
         self.rng.word()
     }
@@ -51,7 +52,8 @@ impl Walker for Random<'_> {
         let end = self.session.resolve(met.answer);
         self.figures.uses[self.session.sort(end) as usize] += 1;
         self.figures.aliases += u64::from(end != met.answer);
-        self.figures.zero += u64::from(met.received == 0);
+        self.figures.unset[0] += u64::from(met.unset);
+        self.figures.unset[1] += u64::from(met.unset && self.session.variable_types()[met.var as usize] >= 4);
         if met.holds != met.received && self.breach.is_none() {
             self.breach = Some(met);
         }
@@ -82,7 +84,7 @@ fn breach(session: &Finished, rng: &mut Rng, figures: &mut Figures) -> Option<St
         let mut walker = Random { session, rng, figures, left, breach: None };
         path::walk(session, &acts, &mut walker);
         if let Some(met) = walker.breach {
-            let Met { block, var, answer, holds, received } = met;
+            let Met { block, var, answer, holds, received, .. } = met;
             return Some(format!("in block {block} the answer {answer} of variable {var} holds {holds:x}, and it received {received:x}"));
         }
     }
@@ -135,7 +137,8 @@ fn summary(figures: &Figures) {
     println!("{} lists meet the four suppositions; {} more did not and were not walked", figures.lists, figures.unfit);
     println!("{} paths through {} blocks, {} uses met on them", figures.paths, figures.blocks, made + params + zeros);
     println!("answers resolve to a made value {made} times, a parameter {params}, a zero {zeros}; {} were aliases", figures.aliases);
-    println!("{} times the variable had received nothing", figures.zero);
+    let [unset, floats] = figures.unset;
+    println!("{unset} times the variable had received nothing, {floats} of them a float, whose bits are a quiet NaN's");
     println!("no breach");
 }
 

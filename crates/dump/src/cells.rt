@@ -2,6 +2,7 @@
 use crate::say::Numbers;
 use crate::say::three;
 use entity::Described;
+use entity::Type;
 
 const BLOCKS: usize = entity::BLOCKS as usize;
 
@@ -145,6 +146,12 @@ pub fn value(form: &[u32], i: usize) -> Numbers {
         d: wide(d.block.0),
         e: cell(form, layout::TARGET, i),
     }
+}
+
+// Value i, its sort, and the bits of its type's unset value, which a zero holds.
+pub fn bits(form: &[u32], i: usize) -> Numbers {
+    let d = Described::from_cell(raw(form, layout::DESCRIBED, i));
+    three(i, wide(d.sort), Type::unset_bits_with(d.ty) as usize)
 }
 
 // Destination j of block i: its place, and the block that it names.

@@ -6,6 +6,7 @@ use crate::say::Numbers;
 use crate::say::one;
 use crate::say::two;
 use crate::texts::line;
+use form::ZERO;
 
 mod cells;
 pub mod out;
@@ -98,20 +99,33 @@ fn value_in_words(out: &mut [u8], n: usize, x: Numbers) -> usize {
     texts::words(out, m, texts::VALUE, x)
 }
 
-fn value(out: &mut [u8], n: usize, in_words: bool, form: &[u32], i: usize) -> usize {
+// The bits that value i holds, if it is a zero.
+fn bits(out: &mut [u8], n: usize, in_words: bool, form: &[u32], i: usize) -> usize {
+    let x = cells::bits(form, i);
+    if x.b == ZERO as usize {
+        return line(out, n, in_words, texts::BITS, x);
+    }
+    n
+}
+
+// What value i is, or its bits.
+fn value(out: &mut [u8], n: usize, in_words: bool, form: &[u32], i: usize, which: usize) -> usize {
+    if which == texts::BITS {
+        return bits(out, n, in_words, form, i);
+    }
     let x = cells::value(form, i);
     if in_words {
         return value_in_words(out, n, x);
     }
-    line(out, n, in_words, texts::VALUE, x)
+    line(out, n, in_words, which, x)
 }
 
-fn values(out: &mut [u8], n: usize, in_words: bool, form: &[u32]) -> usize {
+fn values(out: &mut [u8], n: usize, in_words: bool, form: &[u32], which: usize) -> usize {
     let k = cells::value_count(form);
     let mut m = n;
     let mut i: usize = 0;
     while i < k {
-        m = value(out, m, in_words, form, i);
+        m = value(out, m, in_words, form, i, which);
         i += 1;
     }
     m
@@ -277,7 +291,8 @@ fn zeros(out: &mut [u8], n: usize, in_words: bool, form: &[u32]) -> usize {
 
 // The tables, one after the other.
 fn tables(out: &mut [u8], n: usize, in_words: bool, graph: &[u32], form: &[u32]) -> usize {
-    let mut m = values(out, n, in_words, form);
+    let mut m = values(out, n, in_words, form, texts::VALUE);
+    m = values(out, m, in_words, form, texts::BITS);
     m = blocks(out, m, in_words, graph, form);
     m = zeros(out, m, in_words, form);
     list(

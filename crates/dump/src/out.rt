@@ -59,3 +59,10 @@ pub fn number(out: &mut [u8], n: usize, x: usize) -> usize {
     let k = io::decimal(x as u64, &mut digits);
     text(out, n, &digits[..k])
 }
+
+// In hexadecimal, without leading zeros.
+pub fn hex(out: &mut [u8], n: usize, x: usize) -> usize {
+    let mut digits = [0u8; 16];
+    let k = io::hex(x as u64, 1, &mut digits);
+    text(out, n, &digits[..k])
+}

@@ -1,8 +1,9 @@
 // A text with numbers put in.
 use crate::out::byte;
+use crate::out::hex;
 use crate::out::number;
 
-// What a text tells. Where it tells a type, c is its number.
+// What a text tells. Where it tells a type, c is its number; where it tells bits, c is the bits.
 pub struct Numbers {
     pub a: usize,
     pub b: usize,
@@ -80,6 +81,7 @@ fn piece(out: &mut [u8], n: usize, b: u8, x: Numbers) -> usize {
         b'3' => return number(out, n, x.d),
         b'4' => return number(out, n, x.e),
         b'T' => return type_name(out, n, x.c),
+        b'X' => return hex(out, n, x.c),
         b';' => return byte(out, n, b'\n'),
         _ => return byte(out, n, b),
     }

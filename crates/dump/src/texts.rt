@@ -1,4 +1,5 @@
-// The texts, in letters and in words. A line of a table below is one text: digits stand for numbers, `T` for a type's name, `;` for a line's end.
+// The texts, in letters and in words. A line of a table below is one text: digits stand for numbers, `T` for a type's name, `X` for bits in
+// hexadecimal, `;` for a line's end.
 use crate::say::Numbers;
 use crate::say::phrase;
 
@@ -43,6 +44,9 @@ pub const VALUE_NUMBER: usize = 17;
 // Before the arguments of a destination, in words alone.
 pub const WITH: usize = 18;
 
+// The bits of a zero.
+pub const BITS: usize = 19;
+
 fn letters(out: &mut [u8], n: usize, which: usize, x: Numbers) -> usize {
     phrase(
         out,
@@ -65,6 +69,8 @@ O
 END;
  0
  0
+
+K 0 X;
 ",
         which,
         x,
@@ -94,6 +100,7 @@ blocks in the order placed:
  0
  v0
  with
+v0 holds bits X;
 ",
         which,
         x,

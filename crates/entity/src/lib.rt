@@ -3,7 +3,7 @@ ghost use mathlib.Core.Path.{_≡_};
 ghost use lib.Dec.{eqb, ltb};
 ghost use Rattle.entity.specs.Described.{Fits, Parts, packed, mark-of, with-mark};
 ghost use Rattle.entity.specs.Host.{In-force, Needed};
-ghost use Rattle.entity.specs.Types.{Shaped, Unset, known-number, lane-of, lanes-of, number-found, step-of, type-count, width-of};
+ghost use Rattle.entity.specs.Types.{Shaped, Unset, known-number, lane-of, lanes-of, number-found, plus-one, step-of, type-count, width-of};
 
 // Four kinds of number, each a type of its own, so that one can't be taken for another.
 pub struct Block(pub u32);
@@ -191,11 +191,18 @@ impl Type {
         self.shape().3
     }
 
-    // A zero of this type is one constant, or is made in two steps: then this is the type of the first.
+    // A zero of this type is one constant, or is made in two steps: then this is the number of the first one's type plus one, else 0.
+    pub fn step_plus_one(self) -> u32
+        ensures { λ r. ⌜ r ≡ plus-one (step-of (self .0)) ⌝ }
+    {
+        self.shape().4
+    }
+
+    // The type of the first of two steps.
     pub fn step(self) -> Found
         ensures { λ r. ⌜ number-found r ≡ step-of (self .0) ⌝ }
     {
-        let s = self.shape().4;
+        let s = self.step_plus_one();
         if s == 0 {
             Found::Nothing
         } else {

@@ -6,7 +6,7 @@ ghost use Rattle.layout.specs.Outcome.{lent};
 ghost use Rattle.reader.specs.Rows.{Located};
 ghost use Rattle.reader.specs.declared.Asked.the-variants.{Params, Args};
 ghost use Rattle.session.specs.Ends.{Ended};
-ghost use Rattle.exports.specs.Told.{told};
+ghost use Rattle.exports.specs.Told.{Type-told, told};
 use entity::Block;
 use entity::Branch;
 use entity::Type;
@@ -14,8 +14,9 @@ use entity::Value;
 use reader::Asked;
 use reader::Span;
 
-// Raised when an exported call takes, answers or leaves something else: a host built for another version refuses to start.
-pub const VERSION: u32 = 2;
+// Raised when an exported call takes, answers or leaves something else, or what it leaves stands for something else: a host built for another version
+// refuses to start.
+pub const VERSION: u32 = 3;
 
 // Kinds of call are numbered from 1 to this.
 pub const KINDS: u32 = 16;
@@ -51,6 +52,18 @@ pub struct SangvirebAnswer {
 pub struct SangvirebDrawn {
     pub code: u32,
     pub length: usize,
+}
+
+// A type, as C sees it: the number of its lane's type, how many lanes, the width in bytes; where a zero takes two steps, the number of the first one's type
+// plus one, else 0; the bits of its unset value, which a zero holds, the low 64 and the high 64.
+#[repr(C)]
+pub struct SangvirebType {
+    pub lane: u32,
+    pub lanes: u32,
+    pub width: u32,
+    pub step: u32,
+    pub low: u64,
+    pub high: u64,
 }
 
 // A session over lent lists: crates/session says what it answers and leaves.
@@ -110,6 +123,23 @@ pub extern "C" fn sangvireb_draw(graph: &[u32], form: &[u32], buffer: &mut [u8])
     SangvirebDrawn {
         code: d.code,
         length: d.length,
+    }
+}
+
+// What there is to know of a type, by its number. A number that names no type has no lanes, no width and no bits.
+#[no_mangle]
+pub extern "C" fn sangvireb_type(ty: u32) -> SangvirebType
+    ensures { λ r. ⌜ Type-told ty r ⌝ }
+{
+    let t = Type(ty);
+    let bits = t.unset_bits();
+    SangvirebType {
+        lane: t.lane().0,
+        lanes: t.lanes(),
+        width: t.width(),
+        step: t.step_plus_one(),
+        low: bits.low,
+        high: bits.high,
     }
 }
 

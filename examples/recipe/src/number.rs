@@ -13,11 +13,11 @@ pub enum Number {
 use Number::{Float, Int};
 
 impl Number {
-    /// What a variable holds that nothing has set: zero. A house rule such as NaN for floats would stand here and nowhere else.
+    /// What a variable holds that nothing has set, by the library's bits: a NaN for a float, 0 for an int.
     pub fn unset(ty: Type) -> Number {
         match ty {
-            Type::F64 => Float(f64::from_bits(ty.zero_bits())),
-            _ => Int(ty.zero_bits() as i64),
+            Type::F64 => Float(f64::from_bits(ty.unset_bits())),
+            _ => Int(ty.unset_bits() as i64),
         }
     }
 
@@ -44,12 +44,12 @@ impl Number {
     }
 }
 
-/// Equal by bits, so that 0.0 and -0.0 differ; all NaNs are equal.
+/// Equal by bits, so that 0.0 and -0.0 differ, and an unset float, which is a NaN, is equal to itself and to no other.
 impl PartialEq for Number {
     fn eq(&self, other: &Number) -> bool {
         match (self, other) {
             (Int(a), Int(b)) => a == b,
-            (Float(a), Float(b)) => a.to_bits() == b.to_bits() || (a.is_nan() && b.is_nan()),
+            (Float(a), Float(b)) => a.to_bits() == b.to_bits(),
             _ => false,
         }
     }

@@ -31,12 +31,19 @@ fn the_raw_reading_comes_through_by_neither_way() {
 }
 
 #[test]
-fn a_set_point_that_nothing_has_set_reads_as_zero() {
+fn a_set_point_that_nothing_has_set_shows() {
     assert_eq!(run(&script("setpoint"), &[Int(1)]), Ok(Float(180.0)));
-    assert_eq!(run(&script("setpoint"), &[Int(0)]), Ok(Float(0.0)));
     let form = compile(&script("setpoint")).unwrap().form;
     let [(_, unset)] = form.blocks[0].unset[..] else { panic!("one zero, where every path begins") };
-    assert_eq!(unset, Float(0.0));
+    for number in [unset, run(&script("setpoint"), &[Int(0)]).unwrap()] {
+        assert!(matches!(number, Float(held) if held.to_bits() == 0x7FF8_0000_0000_0000), "{number}");
+    }
+}
+
+#[test]
+fn no_range_takes_an_unset_float_and_an_unset_int_is_zero() {
+    assert_eq!(run("float t; if 0.0 - 1.0 < t { return 1; } if t <= 1.0 { return 2; } return 3;", &[]), Ok(Int(3)));
+    assert_eq!(run("int n; return n;", &[]), Ok(Int(0)));
 }
 
 #[test]

@@ -8,10 +8,10 @@ use Rattle.dump.proofs.values.Statement.{statement}
 use Rattle.dump.proofs.values.Tie as tie
 
 abbrev Inv-loop : tie.InvT-loop
-Inv-loop out₀ n in-words form k m₀ i₀ out m i = (length out ≡ length out₀)
+Inv-loop out₀ n in-words form which k m₀ i₀ out m i = (length out ≡ length out₀)
 
 abbrev μ-loop : tie.MeasureT-loop
-μ-loop out₀ n in-words form k m₀ i₀ out m i = k - i
+μ-loop out₀ n in-words form which k m₀ i₀ out m i = k - i
 
 pub values-spec : {M : Type 1} → statement M
 values-spec =

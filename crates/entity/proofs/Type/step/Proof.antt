@@ -6,10 +6,10 @@ use Rattle.entity.proofs.Type.step.Statement.{statement}
 use Rattle.entity.proofs.Type.step.Tie as tie
 
 returns : tie.Need-returns
-returns c = is-none _ _ (c .before .shape .ensures .step) (c .if1 .taken)
+returns c = is-none _ _ (c .before .step-plus-one .ensures) (c .if1 .taken)
 
 returns-2 : tie.Need-returns-2
-returns-2 c = less-one _ _ (c .before .shape .ensures .step) (c .if1 .left)
+returns-2 c = less-one _ _ (c .before .step-plus-one .ensures) (c .if1 .left)
 
 pub step-spec : {M : Type 1} → statement M
 step-spec = tie.close (tie.spec (λ c κs. search needs) (λ c. search needs) returns returns-2)
