@@ -8,7 +8,7 @@ use Rattle.entity.specs.Types.{i64, type-count}
 use Rattle.definition.specs.Base.{upFrom}
 use Rattle.definition.specs.Session.{Call, session}
 use Rattle.definition.specs.Calls.{declare-var, make-value, define, use-var, new-branch, new-dest, add-pred, seal, seal-all, own-param}
-use Rattle.definition.specs.Calls.{give-arg, blocks, jumps}
+use Rattle.definition.specs.Calls.{give-arg, mark-var, blocks, jumps}
 use Rattle.definition.specs.Tables.{Tables, tables}
 
 -- the numbers of the types I128, F16X8 and F32X4
@@ -24,9 +24,9 @@ f32x4 = 23
 pub cases : List (List Call)
 cases =
     -- U. An I128 that block 0 never defines: the zero is 2, made from the I64 zero 1, and the parameter 0 is an alias of 2. The step 1 may be given to an I64
-    -- variable and passed on as an argument; it isn't an I128.
+    -- variable and passed on as an argument; it isn't an I128. The I128 variable is marked: recorded are 0, and 2 once it is given, but not the step.
     (
-    blocks 2 ++ declare-var 0 i128 ∷ declare-var 1 i64 ∷ seal 0 ∷ use-var 0 0 ∷ use-var 0 0 ∷ []
+    blocks 2 ++ declare-var 0 i128 ∷ declare-var 1 i64 ∷ mark-var 0 ∷ seal 0 ∷ use-var 0 0 ∷ use-var 0 0 ∷ []
     ++ define 0 1 0 ∷ define 1 2 0 ∷ define 1 1 0 ∷ define 0 2 0 ∷ own-param 1 i64 ∷ []
     ++ new-branch 0 ∷ new-dest 0 1 ∷ give-arg 0 1 0 ∷ add-pred 1 0 ∷ seal 1 ∷ use-var 0 1 ∷ use-var 1 1 ∷ []
     ) ∷
@@ -46,12 +46,12 @@ expected =
     -- U
     record {
       counts = (2 ∷ 2 ∷ 4 ∷ 1 ∷ 1 ∷ []);
-      answers = ((0, 0) ∷ (0, 1) ∷ (0, 0) ∷ (0, 1) ∷ (0, 0) ∷ (0, 2) ∷ (0, 0) ∷ (7, 0) ∷ (7, 0) ∷ (0, 1) ∷ (0, 2) ∷ (0, 3) ∷ (0, 0) ∷ (0, 0) ∷
-          (0, 0) ∷ (0, 1) ∷ (0, 0) ∷ (0, 2) ∷ (0, 1) ∷ []);
+      answers = ((0, 0) ∷ (0, 1) ∷ (0, 0) ∷ (0, 1) ∷ (0, 0) ∷ (0, 0) ∷ (0, 2) ∷ (0, 0) ∷ (7, 0) ∷ (7, 0) ∷ (0, 1) ∷ (0, 2) ∷ (0, 3) ∷ (0, 0) ∷
+          (0, 0) ∷ (0, 0) ∷ (0, 1) ∷ (0, 0) ∷ (0, 2) ∷ (0, 1) ∷ []);
       types = (6 ∷ 3 ∷ []);
-      marks = (0 ∷ 0 ∷ []);
+      marks = (1 ∷ 0 ∷ []);
       values = ((1, 6, 0, 2) ∷ (2, 3, 0, 1) ∷ (2, 6, 0, 2) ∷ (3, 3, 1, 3) ∷ []);
-      recorded = (0 ∷ 0 ∷ 0 ∷ 0 ∷ []);
+      recorded = (1 ∷ 0 ∷ 1 ∷ 0 ∷ []);
       params = ([] ∷ (3 ∷ []) ∷ []);
       owns = (0 ∷ 1 ∷ []);
       branches = ((((1, (1 ∷ [])) ∷ []) ∷ []) ∷ [] ∷ []);
@@ -60,7 +60,7 @@ expected =
       sealed = (1 ∷ 1 ∷ []);
       declared = (1 ∷ 0 ∷ []);
       last = ((3 ∷ 2 ∷ []) ∷ (3 ∷ 2 ∷ []) ∷ []);
-      zeros = ((5, 0) ∷ []);
+      zeros = ((6, 0) ∷ []);
       placed = (0 ∷ []);
     } ∷
     -- V

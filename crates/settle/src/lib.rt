@@ -135,8 +135,8 @@ fn emit_zero(form: &mut [u32], c: Counts, sentinel: Value, dest: Block) -> Finis
     form::log_zero(form, c, dest);
     let d = emit_step(form, c, ty, dest);
     let zero = Value(d.values);
-    let e = form::make(form, d, form::ZERO, ty, dest);
-    Finished(zero, e)
+    let more = form::make(form, d, form::ZERO, ty, dest);
+    Finished(zero, more)
 }
 
 // The parameter leaves its block and becomes another name of the value. What records it or has taken it keeps it.
