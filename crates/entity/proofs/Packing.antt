@@ -1,7 +1,7 @@
 -- The parts of a cell: any cell is its parts packed, and two packings agree only in equal parts. For a cell is a number by its digits: each part is below
 -- its room, and the block stands above them all.
 -- Assumes nothing.
-use Prim.Native.Nat.{ℕ, _/_, _%_, _<_}
+use Prim.Native.Nat.{ℕ, _+_, _*_, _/_, _%_, _<_}
 use mathlib.Core.Path.{_≡_}
 use native.Mathlib.Omega.{arith}
 use Rattle.entity.specs.declared.Described.{Described}
@@ -32,6 +32,10 @@ module _ (ty k m b ty′ k′ m′ b′ : ℕ) (t : ty < type-room) (t′ : ty�
 
       pub packed-block : b ≡ b′
       packed-block = omega arith
+
+-- what is below the mark is left, and so is what is above it
+pub marked-is : (cell : ℕ) → with-mark cell ≡ (cell / (type-room * sort-room) / mark-room * mark-room + 1) * (type-room * sort-room) + cell % (type-room * sort-room)
+marked-is cell = omega arith
 
 -- the mark of a packing; the packing with its mark set
 module _ (ty k m b : ℕ) (t : ty < type-room) (s : k < sort-room) (o : m < mark-room) where

@@ -1,8 +1,10 @@
 // What C and Rust link: the public calls under names of their own.
 ghost use mathlib.Core.Path.{_≡_};
+ghost use lib.ListN.{drop};
 ghost use Rattle.definition.specs.Resolve.{Resolved};
 ghost use Rattle.draw.specs.Draws.{Draws};
 ghost use Rattle.layout.specs.Outcome.{lent};
+ghost use Rattle.reader.specs.Marks.{Is-recorded, next-of};
 ghost use Rattle.reader.specs.Rows.{Located};
 ghost use Rattle.reader.specs.declared.Asked.the-variants.{Params, Args};
 ghost use Rattle.session.specs.Ends.{Ended};
@@ -16,10 +18,10 @@ use reader::Span;
 
 // Raised when an exported call takes, answers or leaves something else, or what it leaves stands for something else: a host built for another version
 // refuses to start.
-pub const VERSION: u32 = 3;
+pub const VERSION: u32 = 6;
 
 // Kinds of call are numbered from 1 to this.
-pub const KINDS: u32 = 16;
+pub const KINDS: u32 = 17;
 
 // Sorts of value are numbered from 0.
 pub const SORTS: u32 = 4;
@@ -40,7 +42,7 @@ const TOLD: [u32; 13] = [
     entity::OWN_PARAMS,
 ];
 
-// Code and number of a resolved alias, as C sees them.
+// Code and number of an answer, as C sees them.
 #[repr(C)]
 pub struct SangvirebAnswer {
     pub code: u32,
@@ -112,6 +114,26 @@ pub extern "C" fn sangvireb_args(args: &[u32], branch: u32, place: u32) -> Span
     ensures { λ r. ⌜ Located (now (args .entry)) (Args record { 0 = branch } place) (r .code) (r .start) (r .length) ⌝ }
 {
     reader::locate(args, Asked::Args(Branch(branch), place))
+}
+
+// Is the value recorded for stack maps, by the lent descriptions of the values?
+#[no_mangle]
+pub extern "C" fn sangvireb_recorded(described: &[u32], value: u32) -> SangvirebAnswer
+    ensures { λ r. ⌜ Is-recorded (now (described .entry)) value (r .code) (r .number) ⌝ }
+{
+    let a = reader::recorded(described, Value(value));
+    SangvirebAnswer {
+        code: a.code,
+        number: a.number,
+    }
+}
+
+// The first value from this number on that is; a number past the descriptions if there is none.
+#[no_mangle]
+pub extern "C" fn sangvireb_next_recorded(described: &[u32], from: usize) -> usize
+    ensures { λ r. ⌜ r ≡ next-of from (drop from (now (described .entry))) ⌝ }
+{
+    reader::next_recorded(described, from)
 }
 
 // Draws finished tables: crates/draw says what it answers and writes.
