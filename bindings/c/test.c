@@ -1,5 +1,5 @@
-/* Two branches give a reading different values; after the join a parameter stands for it, and is drawn. Then the refusals of a whole session, rows and
- * resolving. */
+/* Two branches give a reading different values; after the join a parameter stands for it, and is drawn. Then the refusals of a whole session, unset
+ * values, a loop that carries an index, values recorded for stack maps, and resolving. */
 #include "sangvireb.h"
 #include <stdio.h>
 #include <string.h>
@@ -23,7 +23,7 @@ int main(void) {
         {4, 0, 1, 2}, {7, 0, 0, 0}, {8, 0, 1, 0}, {8, 0, 2, 0}, {9, 1, 0, 0}, {9, 2, 0, 0}, {7, 1, 0, 0}, {8, 1, 3, 0},
         {9, 3, 1, 0}, {7, 2, 0, 0}, {8, 2, 3, 0}, {9, 3, 2, 0}, {12, 0, 0, 0}, {6, 0, 3, 0}, {6, 9, 3, 0}};
     enum { N = sizeof calls / sizeof calls[0] };
-    uint32_t k[N], x[N], y[N], z[N], codes[N], numbers[N];
+    uint32_t k[N], x[N], y[N], z[N], codes[N], numbers[N]; /* no later list is longer */
     for (size_t i = 0; i < N; i++) {
         k[i] = calls[i][0], x[i] = calls[i][1], y[i] = calls[i][2], z[i] = calls[i][3];
     }
@@ -111,6 +111,59 @@ int main(void) {
     expect(sangvireb_unset_bits(SANGVIREB_TYPE_I8) == 0 && sangvireb_unset_bits(6) == 0 && sangvireb_unset_bits(UINT32_MAX) == 0,
            "an integer's unset value is 0, and so is that of no type");
 
+    /* a loop that carries an index: block 1's own parameter 0 takes 1 from block 0 and 4 from itself, and the builder's parameter 3 stands behind it */
+    static const uint32_t carried[][4] = {
+        {1, 0, 0, 0}, {1, 1, 0, 0}, {2, 0, 5, 0}, {SANGVIREB_KIND_APPEND_BLOCK_PARAM, 1, 2, 0}, {3, 0, 2, 0}, {3, 0, 5, 0}, {4, 0, 2, 0}, {7, 0, 0, 0},
+        {8, 0, 1, 0}, {16, 0, 2, 0}, {SANGVIREB_KIND_APPEND_ARGUMENT, 0, 1, 0}, {16, 0, 1, 0}, {9, 1, 0, 0}, {15, 1, 2, 0}, {6, 0, 1, 0}, {3, 1, 2, 0},
+        {3, 1, 5, 0}, {4, 0, 5, 1}, {7, 1, 0, 0}, {8, 1, 1, 0}, {16, 1, 4, 0}, {9, 1, 1, 0}, {12, 0, 0, 0}};
+    enum { L = sizeof carried / sizeof carried[0] };
+    for (size_t i = 0; i < L; i++) {
+        k[i] = carried[i][0], x[i] = carried[i][1], y[i] = carried[i][2], z[i] = carried[i][3];
+    }
+    r = sangvireb_session(k, L, x, L, y, L, z, L, codes, L, numbers, L, graph, SANGVIREB_GRAPH_NEED, form, SANGVIREB_FORM_NEED, work,
+                          SANGVIREB_WORK_NEED);
+    for (size_t i = 0; i < L; i++) {
+        uint32_t code = i == 9 ? SANGVIREB_TYPES_DIFFER : i == 11 ? SANGVIREB_NO_PARAM_LEFT : i == 13 ? SANGVIREB_PARAMS_FIXED : 0;
+        expect(r == SANGVIREB_RUN && codes[i] == code, "another type gets 7, one argument too many 18, a parameter after the predecessor 17");
+    }
+    row = sangvireb_params(params, SANGVIREB_PARAM_CELLS, 1);
+    expect(form[SANGVIREB_OWNS + 1] == 1 && row.length == 2 && params[row.start] == 0 && params[row.start + 1] == 3,
+           "the caller's parameter stands before the builder's");
+    expect(SANGVIREB_SORT_OF(form[SANGVIREB_DESCRIBED]) == SANGVIREB_SORT_CALLER_PARAMETER, "and is of its own sort");
+    for (uint32_t p = 0; p < 2; p++) {
+        row = sangvireb_args(args, SANGVIREB_ARG_CELLS, p, 0);
+        expect(row.length == 2 && args[row.start] == 3 * p + 1 && args[row.start + 1] == 3 * p + 2, "each way in brings the index, then the variable");
+    }
+
+    /* variable 0 is marked: value 0, which it is given in block 0, is recorded, and its parameter 2 in block 1; value 1, which variable 1 is given, is not */
+    static const uint32_t marked[][4] = {
+        {1, 0, 0, 0}, {1, 1, 0, 0}, {2, 0, 5, 0}, {2, 1, 5, 0}, {SANGVIREB_KIND_MARK_VAR_NEEDS_STACK_MAP, 0, 0, 0}, {17, 0, 0, 0}, {17, 2, 0, 0}, {3, 0, 5, 0},
+        {4, 0, 0, 0}, {3, 0, 5, 0}, {4, 1, 1, 0}, {17, 0, 0, 0}, {17, 1, 0, 0}, {7, 0, 0, 0}, {8, 0, 1, 0}, {9, 1, 0, 0}, {6, 0, 1, 0}, {6, 1, 1, 0}, {18, 0, 0, 0}};
+    enum { P = sizeof marked / sizeof marked[0] };
+    for (size_t i = 0; i < P; i++) {
+        k[i] = marked[i][0], x[i] = marked[i][1], y[i] = marked[i][2], z[i] = marked[i][3];
+    }
+    r = sangvireb_session(k, P, x, P, y, P, z, P, codes, P, numbers, P, graph, SANGVIREB_GRAPH_NEED, form, SANGVIREB_FORM_NEED, work,
+                          SANGVIREB_WORK_NEED);
+    for (size_t i = 0; i < P; i++) {
+        uint32_t code = i == 6 ? SANGVIREB_ABSENT : i == 11 || i == 12 ? SANGVIREB_DEFINED : i == 18 ? SANGVIREB_UNKNOWN_KIND : 0;
+        expect(r == SANGVIREB_RUN && codes[i] == code, "twice is accepted; an absent variable gets 6, one with a definition 19, kind 18 gets 3");
+    }
+    expect(graph[SANGVIREB_MARKS] == 1 && graph[SANGVIREB_MARKS + 1] == 0, "variable 0 is marked and variable 1 is not");
+    const uint32_t *described = form + SANGVIREB_DESCRIBED;
+    uint32_t values_left = form[SANGVIREB_VALUE_COUNT], met = 0;
+    for (uint32_t v = sangvireb_stack_map_value(form, 0); v < values_left; v = sangvireb_stack_map_value(form, v + 1)) {
+        met = 10 * met + v + 1;
+    }
+    expect(values_left == 4 && met == 13, "recorded are, in order, the values 0 and 2");
+    for (uint32_t v = 0; v < 4; v++) {
+        sangvireb_answer one = sangvireb_recorded(described, values_left, v);
+        expect(one.code == 0 && one.number == (v == 0 || v == 2) && one.number == SANGVIREB_RECORDED(described[v]), "each by itself");
+        expect(SANGVIREB_TYPE_OF(described[v]) == 5 && SANGVIREB_BLOCK_OF(described[v]) == v / 2, "a recorded value has its type and block as before");
+    }
+    sangvireb_answer none = sangvireb_recorded(described, values_left, 4);
+    expect(none.code == SANGVIREB_ABSENT && none.number == 0, "a value that is not there gets 6");
+
     const uint32_t targets[] = {1, 2, 2, 4, 3, 9};
     sangvireb_answer a = sangvireb_resolve(targets, 6, 0);
     expect(a.code == 0 && a.number == 2, "0 resolves to 2");
@@ -122,7 +175,7 @@ int main(void) {
     expect(a.code == SANGVIREB_ABSENT && a.number == 0, "a number past the list gets 6");
     a = sangvireb_resolve(NULL, 0, 0);
     expect(a.code == SANGVIREB_ABSENT && a.number == 0, "nothing is in a list of length 0");
-    args[0] = SANGVIREB_VARIABLES + 1;
+    args[0] = SANGVIREB_PARAM_ROOM + 1;
     row = sangvireb_args(args, SANGVIREB_ARG_CELLS, 0, 0);
     expect(row.code == SANGVIREB_ABSENT && row.length == 0, "a count past the row's room gets 6");
     printf("%s\n", failures ? "failed" : "all as expected");

@@ -5,17 +5,18 @@ use sangvireb::raw::*;
 /// A table's start, its name, how long a row is (1: no rows), and what its rows are of.
 type Part = (usize, &'static str, usize, &'static str);
 
-const GRAPH: [Part; 7] = [
+const GRAPH: [Part; 8] = [
     (BLOCK_COUNT, "count of blocks", 1, ""),
-    (TYPES, "types", PARAM_ROW, ""),
+    (TYPES, "types", TYPE_ROW, ""),
     (BRANCHES, "branch marks", 1, "block"),
     (SEALED, "sealed marks", 1, "block"),
     (EVER_DECLARED, "declared marks", 1, "block"),
+    (MARKS, "stack map marks", 1, "variable"),
     (DEST_ROWS, "destinations", DEST_ROW, "block"),
     (PRED_ROWS, "predecessors", PRED_ROW, "block"),
 ];
 
-const FORM: [Part; 11] = [
+const FORM: [Part; 12] = [
     (VALUE_COUNT, "count of values", 1, ""),
     (MADE_COUNT, "count of made values", 1, ""),
     (TARGET, "alias target", 1, "value"),
@@ -24,7 +25,8 @@ const FORM: [Part; 11] = [
     (ZERO_CALLS, "zero log, calls", ZERO_ROW, ""),
     (ZERO_BLOCKS, "zero log, blocks", ZERO_ROW, ""),
     (PARAM_ROWS, "parameters", PARAM_ROW, "block"),
-    (PENDING_ROWS, "pending variables", PARAM_ROW, "block"),
+    (OWNS, "count of caller's parameters", 1, "block"),
+    (PENDING_ROWS, "pending variables", PENDING_ROW, "block"),
     (DEFS, "last definitions", BLOCKS, "variable"),
     (ARG_ROWS, "arguments", PARAM_ROW, "destination"),
 ];

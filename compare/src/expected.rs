@@ -3,6 +3,11 @@ use sangvireb::raw::*;
 use sangvireb::{Block, Branch};
 use std::collections::HashMap;
 
+/// The sort of a caller's parameter.
+const CALLERS: usize = 3;
+/// What a recorded value has more in its description.
+const RECORDED: u32 = 128;
+
 /// What must be in the needed cells; the work cells must all be 0.
 pub struct Expected {
     pub codes: Vec<u32>,
@@ -14,12 +19,14 @@ pub struct Expected {
     pub rows: HashMap<Asked, Vec<u32>>,
     /// the zeros that the oracle names, with their bits
     pub bits: Vec<(usize, u64)>,
+    /// the values that the oracle has recorded for stack maps
+    pub recorded: Vec<usize>,
 }
 
 impl Expected {
     pub fn new() -> Expected {
         let (graph, form, work) = (vec![0; GRAPH_NEED], vec![0; FORM_NEED], vec![0; WORK_NEED]);
-        Expected { codes: vec![], numbers: vec![], graph, form, work, rows: HashMap::new(), bits: vec![] }
+        Expected { codes: vec![], numbers: vec![], graph, form, work, rows: HashMap::new(), bits: vec![], recorded: vec![] }
     }
 
     /// In the order in which the tables are lent.
@@ -32,6 +39,7 @@ impl Expected {
         self.form.fill(0);
         self.rows.clear();
         self.bits.clear();
+        self.recorded.clear();
         for answers in [&mut self.codes, &mut self.numbers] {
             answers.clear();
             answers.resize(calls, 0);
@@ -64,6 +72,8 @@ impl Expected {
             }
             ("V", &[value, sort, kind, block, target]) => {
                 self.form[TARGET + value] = target as u32;
+                // a caller's parameter stays one of its block
+                self.form[OWNS + block] += u32::from(sort == CALLERS);
                 self.form[DESCRIBED + value] = (kind + 32 * (sort + 4 * 2 * block)) as u32;
             }
             ("P", [block, params @ ..]) => {
@@ -80,17 +90,25 @@ impl Expected {
                 self.listed(Asked::Args(Branch(*block as u32), *place as u32), args);
             }
             ("R", [block, preds @ ..]) => row(&mut self.graph, PRED_ROWS + PRED_ROW * block, preds),
-            ("U", [block, pending @ ..]) => row(&mut self.form, PENDING_ROWS + PARAM_ROW * block, pending),
+            ("U", [block, pending @ ..]) => row(&mut self.form, PENDING_ROWS + PENDING_ROW * block, pending),
             ("E", &[block, sealed]) => self.graph[SEALED + block] = sealed as u32,
             ("L", &[block, var, value_plus_one]) => self.form[DEFS + BLOCKS * var + block] = value_plus_one as u32,
             ("Z", &[place, call, block]) => {
                 self.form[ZERO_CALLS + 1 + place] = call as u32;
                 self.form[ZERO_BLOCKS + 1 + place] = block as u32;
             }
+            ("M", variables) => variables.iter().for_each(|variable| self.graph[MARKS + variable] = 1),
+            ("W", values) => self.record(values),
             ("O", placed) => row(&mut self.form, PLACED, placed),
             _ => return None,
         }
         Some(())
+    }
+
+    /// They have a bit more in their descriptions, which came before.
+    fn record(&mut self, values: &[usize]) {
+        values.iter().for_each(|value| self.form[DESCRIBED + value] += RECORDED);
+        self.recorded.extend_from_slice(values);
     }
 
     fn listed(&mut self, asked: Asked, entries: &[usize]) {

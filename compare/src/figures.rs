@@ -1,10 +1,13 @@
 //! What the lists had in them, so that a run shows what it has tried.
 use crate::both::Both;
+use lists::finished::Finished;
 use lists::{Call, MAX_CALLS};
+use sangvireb::{Kind, Sort};
 use sangvireb::raw::*;
 
 const CODES: usize = 21;
-const KINDS: usize = 16;
+/// 0, the kinds that there are, and one for all above.
+const KINDS: usize = Kind::ALL.len() + 2;
 
 #[derive(Clone, Default)]
 pub struct Figures {
@@ -13,8 +16,13 @@ pub struct Figures {
     codes: [u64; CODES],
     kinds: [u64; KINDS],
     accepted: [u64; KINDS],
-    /// most in one list: calls, values, zeros, alias links in a chain, arguments of a destination, scheduled calls, results
-    most: [usize; 7],
+    /// most in one list: calls, values, zeros, alias links in a chain, parameters of a block, arguments of a destination, scheduled calls, results
+    most: [usize; 8],
+    /// destinations that carry fewer or more arguments than their block has parameters
+    uneven: u64,
+    /// lists in which a variable is marked for stack maps; values recorded, of each sort
+    marked: u64,
+    recorded: [u64; Sort::ALL.len()],
     unfit: u64,
 }
 
@@ -36,12 +44,17 @@ impl Figures {
         let form = both.lent.form();
         let (values, zeros) = (form[VALUE_COUNT] as usize, form[ZERO_CALLS] as usize);
         let args = (0..BLOCKS * DESTS).map(|i| form[ARG_ROWS + PARAM_ROW * i] as usize).max().unwrap_or(0);
+        let params = (0..BLOCKS).map(|b| form[PARAM_ROWS + PARAM_ROW * b] as usize).max().unwrap_or(0);
+        let session = Finished::of(calls, &both.lent);
+        self.uneven += uneven(&session);
+        self.marked += u64::from(both.lent.graph()[MARKS..][..VARIABLES].contains(&1));
+        both.expected.recorded.iter().for_each(|&value| self.recorded[session.sort(value as u32) as usize] += 1);
         let links = longest_chain(&form[TARGET..TARGET + values]);
         let heights = [both.heights.scheduled, both.heights.results];
-        self.raise([calls.len(), values, zeros, links, args, heights[0], heights[1]]);
+        self.raise([calls.len(), values, zeros, links, params, args, heights[0], heights[1]]);
     }
 
-    fn raise(&mut self, seen: [usize; 7]) {
+    fn raise(&mut self, seen: [usize; 8]) {
         self.most.iter_mut().zip(seen).for_each(|(most, seen)| *most = seen.max(*most));
     }
 
@@ -49,18 +62,21 @@ impl Figures {
         self.lists += other.lists;
         self.calls += other.calls;
         self.unfit += other.unfit;
+        self.uneven += other.uneven;
+        self.marked += other.marked;
         let sum = |mine: &mut [u64], theirs: &[u64]| mine.iter_mut().zip(theirs).for_each(|(m, t)| *m += t);
         sum(&mut self.codes, &other.codes);
+        sum(&mut self.recorded, &other.recorded);
         sum(&mut self.kinds, &other.kinds);
         sum(&mut self.accepted, &other.accepted);
         self.raise(other.most);
     }
 
     pub fn brief(&self) -> String {
-        let [calls, values, zeros, links, args, scheduled, results] = self.most;
+        let [calls, values, zeros, links, params, args, scheduled, results] = self.most;
         format!(
-            "{} lists, {} calls, {}% accepted; at most {calls} calls, {values} values, {zeros} zeros, {links} alias links, {args} arguments, \
-             {scheduled} scheduled, {results} results",
+            "{} lists, {} calls, {}% accepted; at most {calls} calls, {values} values, {zeros} zeros, {links} alias links, {params} parameters, \
+             {args} arguments, {scheduled} scheduled, {results} results",
             self.lists,
             self.calls,
             100 * self.codes[0] / self.calls.max(1)
@@ -72,8 +88,23 @@ impl Figures {
         let codes: Vec<String> = (0..CODES).filter(|&c| self.codes[c] > 0).map(|c| format!("{c}: {}", self.codes[c])).collect();
         let kinds: Vec<String> = (0..KINDS).map(|k| format!("{k}: {}/{}", self.accepted[k], self.kinds[k])).collect();
         let (codes, kinds) = (codes.join("  "), kinds.join("  "));
-        format!("codes: {codes}\nsessions refused with 2: {}\naccepted/asked by kind, 15 for all above 14: {kinds}", self.unfit)
+        let (last, above) = (KINDS - 2, KINDS - 1);
+        let recorded: Vec<String> = Sort::ALL.iter().zip(self.recorded).map(|(sort, count)| format!("{sort} {count}")).collect();
+        format!(
+            "codes: {codes}\nlists with a marked variable: {}; values recorded: {}\nsessions refused with 2: {}; destinations with another count than their block's parameters: {}\n\
+             accepted/asked by kind, {above} for all above {last}: {kinds}",
+            self.marked,
+            recorded.join(", "),
+            self.unfit,
+            self.uneven
+        )
     }
+}
+
+/// How many destinations have not one argument for each parameter.
+fn uneven(session: &Finished) -> u64 {
+    let edges = (0..session.blocks()).flat_map(|b| session.dests(b).iter().enumerate().map(move |(i, &to)| (b, i, to)));
+    edges.filter(|&(b, i, to)| session.args(b, i).len() != session.params(to).len()).count() as u64
 }
 
 /// How many links the longest chain of aliases has.

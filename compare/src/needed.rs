@@ -7,7 +7,7 @@ use lists::{Call, text};
 use std::process::ExitCode;
 
 struct Example {
-    /// which of the four suppositions is dropped, from 0
+    /// which of the suppositions is dropped, from 0
     drops: usize,
     story: &'static str,
     calls: &'static [Call],
@@ -27,6 +27,11 @@ const FOREIGN: &[Call] = &[
     [1, 0, 0, 0], [1, 1, 0, 0], [2, 0, 2, 0], [3, 1, 2, 0], [4, 0, 0, 0], [7, 0, 0, 0], [8, 0, 1, 0], [9, 1, 0, 0], [12, 0, 0, 0], [6, 0, 1, 0],
 ];
 
+const SHORT: &[Call] = &[
+    [1, 0, 0, 0], [1, 1, 0, 0], [2, 0, 2, 0], [15, 1, 2, 0], [3, 0, 2, 0], [4, 0, 1, 0], [7, 0, 0, 0], [8, 0, 1, 0], [9, 1, 0, 0], [6, 0, 1, 0],
+    [3, 1, 2, 0], [4, 0, 3, 1], [7, 1, 0, 0], [8, 1, 1, 0], [9, 1, 1, 0], [12, 0, 0, 0],
+];
+
 const WAITING: &[Call] = &[[1, 0, 0, 0], [1, 1, 0, 0], [2, 0, 2, 0], [7, 0, 0, 0], [8, 0, 1, 0], [9, 1, 0, 0], [6, 0, 1, 0]];
 
 const UNFED: &[Call] = &[
@@ -34,13 +39,17 @@ const UNFED: &[Call] = &[
     [3, 1, 2, 0], [4, 0, 2, 1], [7, 1, 0, 0], [8, 1, 1, 0], [9, 1, 1, 0], [7, 2, 0, 0], [8, 2, 1, 0], [12, 0, 0, 0],
 ];
 
-const EXAMPLES: [Example; 6] = [
+const UNGIVEN: &[Call] = &[[1, 0, 0, 0], [1, 1, 0, 0], [15, 1, 0, 0], [7, 0, 0, 0], [8, 0, 1, 0], [9, 1, 0, 0], [12, 0, 0, 0]];
+
+const EXAMPLES: [Example; 8] = [
     Example { drops: 0, story: "Block 0 is not sealed: the answer is a parameter that nothing sets.", calls: UNSEALED, path: Some(&[]) },
     Example { drops: 1, story: "Block 0 goes to itself: the answer is the value made there, the first time not made yet.", calls: ENTERED, path: Some(&[]) },
     Example { drops: 2, story: "Block 0 goes to block 1, which is not told: the variable counts as never set.", calls: UNDECLARED, path: Some(&[0]) },
     Example { drops: 3, story: "Block 0 gives the variable a value of block 1, which makes it anew.", calls: FOREIGN, path: Some(&[0]) },
+    Example { drops: 4, story: "Block 1's own parameter is given no argument: the builder's stands in its place.", calls: SHORT, path: Some(&[0]) },
     Example { drops: 0, story: "Block 1 is not sealed: its parameter has no arguments yet.", calls: WAITING, path: None },
     Example { drops: 2, story: "Block 2 goes to block 1, which is not told: its branch carries no argument.", calls: UNFED, path: None },
+    Example { drops: 4, story: "Block 1's own parameter is given no argument, and there is no other.", calls: UNGIVEN, path: None },
 ];
 
 /// Takes the given places, and keeps what it meets in the last block.
@@ -101,7 +110,7 @@ fn show(example: &Example, both: &mut Both) -> bool {
     println!("library and oracle: {}", difference.as_deref().unwrap_or("no difference"));
     let session = Finished::of(example.calls, &both.lent);
     let only_this = path::supposed(&session).iter().enumerate().all(|(i, met)| *met == (i != example.drops));
-    println!("the other three suppositions are met: {}", if only_this { "yes" } else { "no" });
+    println!("the others are met: {}", if only_this { "yes" } else { "no" });
     let wrong = example.path.map_or_else(|| wrong_arguments(&session), |places| wrong_use(&session, places));
     println!("the conclusion fails: {}\n", if wrong { "yes" } else { "no" });
     difference.is_none() && only_this && wrong

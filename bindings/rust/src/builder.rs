@@ -1,5 +1,5 @@
 //! A builder that answers each call at once.
-use crate::list::once_each;
+use crate::list::{once_each, without_arguments};
 use crate::{Block, Branch, Call, List, Refused, Session, Type, Value, Variable};
 
 /// The crate's builder by its method names, with an answer to each call.
@@ -101,6 +101,26 @@ impl SSABuilder {
         self.session.is_sealed(block)
     }
 
+    /// See [`List::append_block_param`].
+    pub fn append_block_param(&mut self, block: Block, ty: Type) -> Result<Value, Refused> {
+        self.ask(|list| list.append_block_param(block, ty))
+    }
+
+    /// See [`List::append_argument`].
+    pub fn append_argument(&mut self, branch: Branch, value: Value, place: u32) -> Result<u32, Refused> {
+        self.ask(|list| list.append_argument(branch, value, place))
+    }
+
+    /// See [`List::mark_var_needs_stack_map`].
+    pub fn mark_var_needs_stack_map(&mut self, variable: Variable) -> Result<Variable, Refused> {
+        self.ask(|list| list.mark_var_needs_stack_map(variable))
+    }
+
+    /// See [`Session::stack_map_values`].
+    pub fn stack_map_values(&self) -> impl Iterator<Item = Value> + '_ {
+        self.session.stack_map_values()
+    }
+
     /// Ends a block with a branch to one block, declared to it. See [`branch`](SSABuilder::branch).
     pub fn jump(&mut self, from: Block, to: Block) -> Result<Branch, Refused> {
         self.branch(from, &[to])
@@ -110,9 +130,34 @@ impl SSABuilder {
     ///
     /// These are several calls. If one is refused, that is the answer, and those before it stand.
     pub fn branch(&mut self, from: Block, to: &[Block]) -> Result<Branch, Refused> {
+        self.branch_with(from, &without_arguments(to))
+    }
+
+    /// The same with arguments for each destination's parameters of the caller's, one for each of them.
+    ///
+    /// ```
+    /// use sangvireb::{Block, SSABuilder, Type};
+    ///
+    /// # fn main() -> Result<(), sangvireb::Refused> {
+    /// let mut ssa = SSABuilder::new();
+    /// let [start, turn] = [ssa.declare_block(Block(0))?, ssa.declare_block(Block(1))?];
+    /// let minute = ssa.append_block_param(turn, Type::I32)?; // the loop's index
+    /// let first = ssa.make_value(start, Type::I32)?;
+    /// ssa.branch_with(start, &[(turn, &[first])])?;
+    /// let next = ssa.make_value(turn, Type::I32)?; // computed from `minute`
+    /// ssa.branch_with(turn, &[(turn, &[next])])?;
+    /// ssa.seal_all_blocks()?;
+    /// assert!(ssa.session().caller_params(turn)?.eq([minute]));
+    /// # Ok(())
+    /// # }
+    /// ```
+    pub fn branch_with(&mut self, from: Block, to: &[(Block, &[Value])]) -> Result<Branch, Refused> {
         let branch = self.new_branch(from)?;
-        for &block in to {
+        for (place, &(block, arguments)) in (0..).zip(to) {
             self.new_dest(branch, block)?;
+            for &value in arguments {
+                self.append_argument(branch, value, place)?;
+            }
         }
         for block in once_each(to) {
             self.declare_block_predecessor(block, branch)?;

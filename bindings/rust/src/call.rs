@@ -87,6 +87,9 @@ impl fmt::Display for Words {
             Kind::DeclareBlockPredecessor | Kind::RemoveBlockPredecessor => write!(f, "{kind} of {} with {}", Block(x), Branch(y)),
             Kind::SealAllBlocks => write!(f, "{kind}"),
             Kind::HasAnyPredecessors | Kind::IsSealed => write!(f, "{kind} of {}", Block(x)),
+            Kind::AppendBlockParam => write!(f, "{kind} of {} to {}", type_word(y), Block(x)),
+            Kind::AppendArgument => write!(f, "{kind} of {} to destination {z} of {}", Value(y), Branch(x)),
+            Kind::MarkVarNeedsStackMap => write!(f, "{kind} of {}", Variable(x)),
         }
     }
 }

@@ -12,6 +12,8 @@ pub(crate) enum Named {
     Value(u32),
     Branch(u32),
     Use(u32),
+    /// By its branch, which is there, and its place.
+    Destination(u32, u32),
 }
 
 /// What a call of these numbers names, in the order of its checks.
@@ -20,11 +22,13 @@ fn named([kind, x, y, z]: [u32; 4]) -> Vec<Named> {
     match kind {
         Kind::DeclareBlock | Kind::SealAllBlocks => vec![],
         Kind::DeclareVar => vec![Named::Type(y)],
-        Kind::MakeValue => vec![Named::Block(x), Named::Type(y)],
+        Kind::MakeValue | Kind::AppendBlockParam => vec![Named::Block(x), Named::Type(y)],
         Kind::DefVar => vec![Named::Variable(x), Named::Value(y), Named::Block(z)],
         Kind::DefVarAnswer => vec![Named::Variable(x), Named::Use(y), Named::Block(z)],
         Kind::UseVar => vec![Named::Variable(x), Named::Block(y)],
+        Kind::MarkVarNeedsStackMap => vec![Named::Variable(x)],
         Kind::NewDest => vec![Named::Branch(x), Named::Block(y)],
+        Kind::AppendArgument => vec![Named::Branch(x), Named::Value(y), Named::Destination(x, z)],
         Kind::DeclareBlockPredecessor | Kind::RemoveBlockPredecessor => vec![Named::Block(x), Named::Branch(y)],
         Kind::NewBranch | Kind::SealBlock | Kind::HasAnyPredecessors | Kind::IsSealed => vec![Named::Block(x)],
     }
@@ -45,6 +49,10 @@ impl Named {
             },
             Named::Use(NO_CALL) => Some("a list takes the answers of its own uses alone".into()),
             Named::Use(place) => not_a_use(session, place as usize),
+            Named::Destination(branch, place) => {
+                let count = session.destinations(Branch(branch)).map_or(0, |ways| ways.len());
+                (place as usize >= count).then(|| format!("{} has no destination {place}; it has {count}", Branch(branch)))
+            }
         }
     }
 }
@@ -91,16 +99,31 @@ pub(crate) fn reason(before: &Session, call: [u32; 4], refusal: Refusal) -> Stri
         Refusal::IsSealed => format!("{block} is sealed"),
         Refusal::HasBranch => format!("{block} has its branch already"),
         Refusal::DestsFull => format!("{branch} has {} destinations, which is the limit", raw::DESTS),
-        Refusal::Declared => format!("{branch} is declared to {}, so its destinations are fixed", declared_to(before, branch)),
+        Refusal::Declared => {
+            let what = if kind == Some(Kind::AppendArgument) { "caller's arguments" } else { "destinations" };
+            format!("{branch} is declared to {}, so its {what} are fixed", declared_to(before, branch))
+        }
         Refusal::DeclaredHere => format!("{branch} is declared to {block} already"),
         Refusal::NoEdge if kind == Some(Kind::RemoveBlockPredecessor) => format!("{branch} is not declared to {block}"),
         Refusal::NoEdge => format!("{branch} leads to {}", leads_to(before, branch)),
         Refusal::NoEnd => refusal.to_string(),
+        Refusal::ParamsFixed => format!("{}, and the caller's parameters stand before the builder's", fixed_by(before, block)),
+        Refusal::NoParamLeft if kind == Some(Kind::AppendBlockParam) => {
+            format!("{block} has {} parameters of the caller's, which is the limit", raw::OWN_PARAMS)
+        }
+        Refusal::NoParamLeft => none_left(before, branch, z).unwrap_or_else(|| refusal.to_string()),
+        Refusal::Defined => defined_as(before, Variable(x)).unwrap_or_else(|| refusal.to_string()),
         Refusal::Late => format!("{} was declared before, so {} takes no more definitions", Branch(z), Block(z)),
     }
 }
 
-fn types(before: &Session, [kind, x, y, _]: [u32; 4]) -> Option<String> {
+fn types(before: &Session, [kind, x, y, z]: [u32; 4]) -> Option<String> {
+    if kind == Kind::AppendArgument.number() {
+        let way = before.destinations(Branch(x)).ok()?.nth(z as usize)?;
+        let param = before.value(before.caller_params(way.target).ok()?.nth(way.args.len())?).ok()?;
+        let given = before.value(Value(y)).ok()?;
+        return Some(format!("the parameter {} of {} is {} and {} is {}", param.value, param.block, param.ty, given.value, given.ty));
+    }
     let variable = Variable(x);
     let wanted = before.type_of(variable).ok()?;
     let value = match Kind::from_number(kind)? {
@@ -109,6 +132,35 @@ fn types(before: &Session, [kind, x, y, _]: [u32; 4]) -> Option<String> {
         _ => return Some(format!("{variable} is declared as {wanted}")),
     };
     Some(format!("{variable} is {wanted} and {value} is {}", before.value(value).ok()?.ty))
+}
+
+/// Why a block gets no more parameters of the caller's.
+fn fixed_by(before: &Session, block: Block) -> String {
+    if before.is_sealed(block).unwrap_or(false) {
+        return format!("{block} is sealed");
+    }
+    match before.predecessors(block).ok().and_then(|mut branches| branches.next()) {
+        Some(branch) => format!("{branch} is declared to {block}"),
+        None => words("", before.pending(block).into_iter().flatten().take(1)) + &format!(" waits in {block}"),
+    }
+}
+
+/// Why a destination takes no further argument of the caller's.
+fn none_left(before: &Session, branch: Branch, place: u32) -> Option<String> {
+    let way = before.destinations(branch).ok()?.nth(place as usize)?;
+    let count = before.caller_params(way.target).ok()?.len();
+    Some(match count {
+        0 => format!("{} has no parameter of the caller's", way.target),
+        1 => format!("{} has 1 parameter of the caller's, and destination {place} has its argument", way.target),
+        _ => format!("{} has {count} parameters of the caller's, and destination {place} has an argument for each", way.target),
+    })
+}
+
+/// Where a variable that comes to be marked has a definition already.
+fn defined_as(before: &Session, variable: Variable) -> Option<String> {
+    let found = |block| Some((block, before.def(variable, block).ok()??));
+    let (block, value) = before.blocks().find_map(found)?;
+    Some(format!("{variable} is {value} in {block} already, and a variable is marked before it has any definition"))
 }
 
 fn declared_to(before: &Session, branch: Branch) -> String {

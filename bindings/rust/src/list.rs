@@ -214,6 +214,26 @@ impl List {
         self.record(Kind::IsSealed, block.0, 0, 0, |sealed| sealed != 0)
     }
 
+    /// Gives a block a parameter of the caller's own, behind those that it has. It counts as a made value, and may be given to variables and passed on
+    /// in its block. The block isn't sealed, has no predecessor and no use waits in it: after that it is refused as
+    /// [`ParamsFixed`](crate::Refusal::ParamsFixed).
+    pub fn append_block_param(&mut self, block: Block, ty: Type) -> Call<Value> {
+        self.record(Kind::AppendBlockParam, block.0, ty.number(), 0, Value)
+    }
+
+    /// Gives the branch's destination at this place the argument for the next parameter of the caller's that its block has, while the branch isn't
+    /// declared. Answers which argument it is, from 0. The builder's parameters get theirs from the builder.
+    pub fn append_argument(&mut self, branch: Branch, value: Value, place: u32) -> Call<u32> {
+        self.record(Kind::AppendArgument, branch.0, value.0, place, |argument| argument)
+    }
+
+    /// Marks a variable that holds what a garbage collector must see: from here on each value that it is given and each parameter that the builder makes
+    /// for it is recorded, and [`Session::stack_map_values`] has them. A variable is marked before it has any definition on record, else it is refused as
+    /// [`Defined`](crate::Refusal::Defined); twice is once.
+    pub fn mark_var_needs_stack_map(&mut self, variable: Variable) -> Call<Variable> {
+        self.record(Kind::MarkVarNeedsStackMap, variable.0, 0, 0, Variable)
+    }
+
     /// Ends a block with a branch to one block, declared to it.
     pub fn jump(&mut self, from: Block, to: Block) -> Call<Branch> {
         self.branch(from, &[to])
@@ -221,9 +241,17 @@ impl List {
 
     /// Ends a block with a branch to these, in this order, and declares it to each; a block named twice is one predecessor's.
     pub fn branch(&mut self, from: Block, to: &[Block]) -> Call<Branch> {
+        self.branch_with(from, &without_arguments(to))
+    }
+
+    /// The same with arguments for each destination's parameters of the caller's, one for each of them.
+    pub fn branch_with(&mut self, from: Block, to: &[(Block, &[Value])]) -> Call<Branch> {
         let (call, branch) = (self.new_branch(from), Branch(from.0));
-        for &block in to {
+        for (place, &(block, arguments)) in (0..).zip(to) {
             let _ = self.new_dest(branch, block);
+            for &value in arguments {
+                let _ = self.append_argument(branch, value, place);
+            }
         }
         for block in once_each(to) {
             let _ = self.declare_block_predecessor(block, branch);
@@ -232,9 +260,14 @@ impl List {
     }
 }
 
-/// The blocks without those that were named before.
-pub(crate) fn once_each(blocks: &[Block]) -> impl Iterator<Item = Block> + '_ {
-    blocks.iter().enumerate().filter(|(place, block)| !blocks[..*place].contains(block)).map(|(_, block)| *block)
+/// The blocks as destinations that are given nothing.
+pub(crate) fn without_arguments(blocks: &[Block]) -> Vec<(Block, &'static [Value])> {
+    blocks.iter().map(|&block| (block, &[][..])).collect()
+}
+
+/// The destinations' blocks without those that were named before.
+pub(crate) fn once_each<'a>(to: &'a [(Block, &[Value])]) -> impl Iterator<Item = Block> + 'a {
+    to.iter().enumerate().filter(|(place, way)| !to[..*place].iter().any(|other| other.0 == way.0)).map(|(_, way)| way.0)
 }
 
 /// The same calls in a list of its own: what was handed out for the first list's calls doesn't count for it.

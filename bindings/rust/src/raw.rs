@@ -6,7 +6,7 @@
 use crate::{library, Block, Branch, Kind, Sort, Type};
 
 /// The version of the library's calls that this package was written for.
-pub const VERSION: u32 = 3;
+pub const VERSION: u32 = 5;
 
 /// Blocks in a session.
 pub const BLOCKS: usize = 64;
@@ -14,8 +14,10 @@ pub const BLOCKS: usize = 64;
 pub const VARIABLES: usize = 64;
 /// Destinations of a branch.
 pub const DESTS: usize = 8;
-/// Values that the caller makes.
+/// Values that the caller makes, its parameters among them.
 pub const MADE: usize = 4096;
+/// Parameters of a block that are the caller's own.
+pub const OWN_PARAMS: usize = 64;
 /// Calls in a list.
 pub const CALLS: usize = 16384;
 
@@ -23,13 +25,19 @@ pub const CALLS: usize = 16384;
 pub const ZERO_ROOM: usize = BLOCKS * VARIABLES;
 /// Values of every sort: those made, and a parameter and a zero for each variable and block.
 pub const VALUE_ROOM: usize = MADE + 2 * ZERO_ROOM;
+/// Parameters of a block, or arguments of a destination: the caller's, and one for each variable.
+pub const PARAM_ROOM: usize = OWN_PARAMS + VARIABLES;
 
 /// Cells of a row of destinations: its count, then its entries, as in every row.
 pub const DEST_ROW: usize = 1 + DESTS;
 /// Cells of a row of predecessors or of placed blocks.
 pub const PRED_ROW: usize = 1 + BLOCKS;
-/// Cells of a row of types, parameters, pending variables or arguments.
-pub const PARAM_ROW: usize = 1 + VARIABLES;
+/// Cells of a row of parameters or arguments.
+pub const PARAM_ROW: usize = 1 + PARAM_ROOM;
+/// Cells of a row of pending variables.
+pub const PENDING_ROW: usize = 1 + VARIABLES;
+/// Cells of the row of types.
+pub const TYPE_ROW: usize = 1 + VARIABLES;
 /// Cells of a row of the zero log.
 pub const ZERO_ROW: usize = 1 + ZERO_ROOM;
 
@@ -38,13 +46,15 @@ pub const BLOCK_COUNT: usize = 0;
 /// In `graph`: the row of the declared variables' types.
 pub const TYPES: usize = BLOCK_COUNT + 1;
 /// In `graph`: which blocks have a branch.
-pub const BRANCHES: usize = TYPES + PARAM_ROW;
+pub const BRANCHES: usize = TYPES + TYPE_ROW;
 /// In `graph`: which blocks are sealed.
 pub const SEALED: usize = BRANCHES + BLOCKS;
 /// In `graph`: which blocks' branches were ever declared, also those that were removed again.
 pub const EVER_DECLARED: usize = SEALED + BLOCKS;
+/// In `graph`: which variables are marked for stack maps.
+pub const MARKS: usize = EVER_DECLARED + BLOCKS;
 /// In `graph`: a row of destinations for each block.
-pub const DEST_ROWS: usize = EVER_DECLARED + BLOCKS;
+pub const DEST_ROWS: usize = MARKS + VARIABLES;
 /// In `graph`: a row of predecessors for each block.
 pub const PRED_ROWS: usize = DEST_ROWS + BLOCKS * DEST_ROW;
 /// Cells that `graph` needs.
@@ -68,10 +78,12 @@ pub const ZERO_BLOCKS: usize = ZERO_CALLS + ZERO_ROW;
 pub const PARAM_ROWS: usize = ZERO_BLOCKS + ZERO_ROW;
 /// Cells of the table of parameters.
 pub const PARAM_CELLS: usize = BLOCKS * PARAM_ROW;
+/// In `form`: how many of each block's parameters are the caller's. They are its first ones.
+pub const OWNS: usize = PARAM_ROWS + PARAM_CELLS;
 /// In `form`: a row of pending variables for each block.
-pub const PENDING_ROWS: usize = PARAM_ROWS + PARAM_CELLS;
+pub const PENDING_ROWS: usize = OWNS + BLOCKS;
 /// In `form`: the last definitions, value plus one, by variable and then by block.
-pub const DEFS: usize = PENDING_ROWS + BLOCKS * PARAM_ROW;
+pub const DEFS: usize = PENDING_ROWS + BLOCKS * PENDING_ROW;
 /// In `form`: a row of arguments for each destination of each block's branch.
 pub const ARG_ROWS: usize = DEFS + VARIABLES * BLOCKS;
 /// Cells of the table of arguments.
@@ -100,7 +112,7 @@ pub const NO_ROOM: u32 = 15;
 pub const NOT_DRAWABLE: u32 = 16;
 
 /// What the library tells of itself, by the number to ask [`limit`] for: in words, and what this package was built for.
-pub const TOLD: [(&str, u32); 12] = [
+pub const TOLD: [(&str, u32); 13] = [
     ("version of its calls", VERSION),
     ("limit of blocks", BLOCKS as u32),
     ("limit of variables", VARIABLES as u32),
@@ -113,6 +125,7 @@ pub const TOLD: [(&str, u32); 12] = [
     ("count of kinds", Kind::ALL.len() as u32),
     ("count of types", Type::ALL.len() as u32),
     ("count of sorts", Sort::ALL.len() as u32),
+    ("limit of a block's parameters of the caller's", OWN_PARAMS as u32),
 ];
 
 #[repr(C)]
@@ -160,6 +173,8 @@ extern "C" {
     fn sangvireb_resolve(targets: *const u32, targets_len: usize, value: u32) -> Answer;
     fn sangvireb_params(params: *const u32, params_len: usize, block: u32) -> Span;
     fn sangvireb_args(args: *const u32, args_len: usize, branch: u32, place: u32) -> Span;
+    fn sangvireb_recorded(described: *const u32, described_len: usize, value: u32) -> Answer;
+    fn sangvireb_next_recorded(described: *const u32, described_len: usize, from: usize) -> usize;
     fn sangvireb_draw(
         graph: *const u32,
         graph_len: usize,
@@ -269,6 +284,30 @@ pub fn row<'a>(params: &'a [u32], args: &'a [u32], asked: Asked) -> &'a [u32] {
 /// If the library that is linked was built for other limits ([`check`](crate::check)).
 pub fn row_code(params: &[u32], args: &[u32], asked: Asked) -> u32 {
     locate(params, args, asked).1.code
+}
+
+/// Is the value recorded for stack maps? Lent are the values' descriptions, the cells from [`DESCRIBED`] on. Answers a code and a number: 0 and 1 if it is, 0
+/// and 0 if it isn't, 6 and 0 if no such value is lent.
+///
+/// # Panics
+///
+/// If the library that is linked was built for other limits ([`check`](crate::check)).
+pub fn recorded(described: &[u32], value: u32) -> (u32, u32) {
+    library::must_fit();
+    // SAFETY: the proved contract has no precondition, and the pair is the slice's own pointer and length, which is only read.
+    let answer = unsafe { sangvireb_recorded(described.as_ptr(), described.len(), value) };
+    (answer.code, answer.number)
+}
+
+/// The first recorded value from this number on; if there is none, a number past the lent descriptions.
+///
+/// # Panics
+///
+/// If the library that is linked was built for other limits ([`check`](crate::check)).
+pub fn next_recorded(described: &[u32], from: usize) -> usize {
+    library::must_fit();
+    // SAFETY: the proved contract has no precondition, and the pair is the slice's own pointer and length, which is only read.
+    unsafe { sangvireb_next_recorded(described.as_ptr(), described.len(), from) }
 }
 
 /// Writes finished tables, whatever they hold, into the buffer, as text in Graphviz's language DOT. Answers a code and a length: 0 and the

@@ -109,7 +109,7 @@ impl Session {
         self.form[raw::VALUE_COUNT]
     }
 
-    /// How many of them the caller made.
+    /// How many of them the caller made, its parameters among them.
     pub fn made_count(&self) -> u32 {
         self.form[raw::MADE_COUNT]
     }
@@ -118,6 +118,11 @@ impl Session {
     pub fn type_of(&self, variable: Variable) -> Result<Type, Refused> {
         let place = self.variable(variable)?;
         Ok(stored_type(self.graph[raw::TYPES + 1 + place]))
+    }
+
+    /// Is the variable marked, so that stack maps must have what it receives?
+    pub fn is_marked(&self, variable: Variable) -> Result<bool, Refused> {
+        Ok(self.graph[raw::MARKS + self.variable(variable)?] != 0)
     }
 
     /// Is the block sealed?
@@ -145,21 +150,33 @@ impl Session {
         Ok(row(&self.graph, raw::PRED_ROWS + self.block(block)? * raw::PRED_ROW, Branch))
     }
 
-    /// The block's parameters, in order.
+    /// The block's parameters, in order: first the caller's, then the builder's.
     pub fn params(&self, block: Block) -> Result<Row<'_, Value>, Refused> {
         self.block(block)?;
         Ok(self.listed(Asked::Params(block)))
     }
 
-    /// A row that the library reads out, a part of the form.
+    /// Those of the block's parameters that are the caller's own, in order. They are the first of [`params`](Session::params); the others are the
+    /// builder's.
+    pub fn caller_params(&self, block: Block) -> Result<Row<'_, Value>, Refused> {
+        let count = self.form[raw::OWNS + self.block(block)?] as usize;
+        // The caller's parameters stand first (`callers-first`), so the row has them.
+        Ok(self.cells(Asked::Params(block))[..count].iter().copied().map(Value))
+    }
+
     fn listed(&self, asked: Asked) -> Row<'_, Value> {
+        self.cells(asked).iter().copied().map(Value)
+    }
+
+    /// A row that the library reads out, a part of the form.
+    fn cells(&self, asked: Asked) -> &[u32] {
         let table = |start, cells| &self.form[start..][..cells];
-        raw::row(table(raw::PARAM_ROWS, raw::PARAM_CELLS), table(raw::ARG_ROWS, raw::ARG_CELLS), asked).iter().copied().map(Value)
+        raw::row(table(raw::PARAM_ROWS, raw::PARAM_CELLS), table(raw::ARG_ROWS, raw::ARG_CELLS), asked)
     }
 
     /// The variables that wait for the block to be sealed. Their parameters are the last of the block's, in the same order.
     pub fn pending(&self, block: Block) -> Result<Row<'_, Variable>, Refused> {
-        Ok(row(&self.form, raw::PENDING_ROWS + self.block(block)? * raw::PARAM_ROW, Variable))
+        Ok(row(&self.form, raw::PENDING_ROWS + self.block(block)? * raw::PENDING_ROW, Variable))
     }
 
     /// The value recorded last for the variable in the block, if there is one. It may be an alias.
@@ -182,11 +199,30 @@ impl Session {
         let (ty, sort, block) = raw::described(self.form[raw::DESCRIBED + place]);
         ValueData {
             value: Value(place as u32),
-            sort: Sort::from_number(sort).expect("proved: the tables show a sort as 0, 1 or 2"),
+            sort: Sort::from_number(sort).expect("proved: the tables show a sort as 0 to 3"),
             ty: stored_type(ty),
             block: Block(block),
             target: Value(self.form[raw::TARGET + place]),
         }
+    }
+
+    /// Is the value recorded, so that stack maps must have it? It is exactly if a definition gave it to a marked variable or if it is a parameter that the
+    /// builder made for one.
+    pub fn is_recorded(&self, value: Value) -> Result<bool, Refused> {
+        self.there(Named::Value(value.0)).map(|()| raw::recorded(self.descriptions(), value.0).1 != 0)
+    }
+
+    /// The recorded values, by number. Aliases are among them: a value that became one is there under its own number, and what it stands for is there only
+    /// if that was recorded too.
+    pub fn stack_map_values(&self) -> impl Iterator<Item = Value> + '_ {
+        let described = self.descriptions();
+        let from = move |place| Some(raw::next_recorded(described, place)).filter(|&found| found < described.len());
+        std::iter::successors(from(0), move |&found| from(found + 1)).map(|found| Value(found as u32))
+    }
+
+    /// What each value is, a cell each.
+    fn descriptions(&self) -> &[u32] {
+        &self.form[raw::DESCRIBED..][..self.value_count() as usize]
     }
 
     /// The value that this one stands for: itself if it is no alias.

@@ -7,13 +7,13 @@ use std::fmt;
 #[derive(Clone, Copy, PartialEq, Eq, Hash, Debug)]
 #[repr(u32)]
 pub enum Refusal {
-    /// The kind is not 1 to 14. Only a call recorded by its numbers can get this.
+    /// There is no such kind. Only a call recorded by its numbers can get this.
     UnknownKind = 3,
     /// The limit of blocks, variables or made values is reached; in an [`SSABuilder`](crate::SSABuilder) also that of calls.
     Full,
     /// A block or variable number skips the next one.
     Skips,
-    /// A named block, variable, type, value, branch or call isn't there.
+    /// A named block, variable, type, value, branch, destination or call isn't there.
     Absent,
     /// Types differ.
     TypesDiffer,
@@ -23,7 +23,7 @@ pub enum Refusal {
     HasBranch,
     /// The branch has eight destinations.
     DestsFull,
-    /// The branch is at present declared somewhere, so its destinations are fixed.
+    /// The branch is at present declared somewhere, so its destinations and what the caller gives them are fixed.
     Declared,
     /// This branch is already declared to this block.
     DeclaredHere,
@@ -31,13 +31,20 @@ pub enum Refusal {
     NoEdge,
     /// Resolving an alias reaches no end.
     NoEnd,
+    /// The block is sealed, has a predecessor or is waited in by a variable, so it gets no more parameters of the caller's: these stand before the
+    /// builder's.
+    ParamsFixed = 17,
+    /// The block has as many parameters of the caller's as it can have; or, for an argument, none that the destination has no argument for.
+    NoParamLeft = 18,
+    /// A mark of a variable that has a definition on record in some block: one that it was given, a parameter, or a value copied there by a use.
+    Defined = 19,
     /// A definition in a block whose branch was declared before, even if it was removed since.
     Late = 20,
 }
 
 impl Refusal {
     /// All refusals, by code.
-    pub const ALL: [Refusal; 13] = [
+    pub const ALL: [Refusal; 16] = [
         Refusal::UnknownKind,
         Refusal::Full,
         Refusal::Skips,
@@ -50,6 +57,9 @@ impl Refusal {
         Refusal::DeclaredHere,
         Refusal::NoEdge,
         Refusal::NoEnd,
+        Refusal::ParamsFixed,
+        Refusal::NoParamLeft,
+        Refusal::Defined,
         Refusal::Late,
     ];
 
@@ -75,10 +85,13 @@ impl fmt::Display for Refusal {
             Refusal::IsSealed => "the block is sealed",
             Refusal::HasBranch => "the block already has a branch",
             Refusal::DestsFull => "the branch has no room for another destination",
-            Refusal::Declared => "the branch is declared, so its destinations are fixed",
+            Refusal::Declared => "the branch is declared, so its destinations and their arguments are fixed",
             Refusal::DeclaredHere => "the branch is already declared to this block",
             Refusal::NoEdge => "the branch doesn't lead to this block, or isn't declared to it",
             Refusal::NoEnd => "the chain of aliases has no end",
+            Refusal::ParamsFixed => "the block is sealed, entered or waited in, so the caller's parameters of it are fixed",
+            Refusal::NoParamLeft => "the block has no more parameters of the caller's",
+            Refusal::Defined => "the variable has a definition already, which stack maps would miss",
             Refusal::Late => "the block's branch was declared before, so the block takes no more definitions",
         })
     }

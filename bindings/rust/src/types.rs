@@ -70,6 +70,12 @@ numbered!(
     HasAnyPredecessors "has_any_predecessors",
     /// Asks whether a block is sealed.
     IsSealed "is_sealed",
+    /// Gives a block a parameter of the caller's own.
+    AppendBlockParam "append_block_param",
+    /// Gives a destination an argument for such a parameter.
+    AppendArgument "append_argument",
+    /// Marks a variable: the values that it receives are recorded for stack maps.
+    MarkVarNeedsStackMap "mark_var_needs_stack_map",
 );
 
 numbered!(
@@ -116,8 +122,10 @@ numbered!(
     Sort from 0, "sorts":
     /// Made by the caller.
     Made "made",
-    /// A parameter of its block.
+    /// A parameter of its block, made by the builder for a variable.
     Parameter "parameter",
     /// A zero added at the start of its block, where a variable was read that nothing had set. It holds its type's unset value, a NaN for a float.
     Zero "zero",
+    /// A parameter that the caller gave its block.
+    CallerParameter "caller's parameter",
 );

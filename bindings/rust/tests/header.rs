@@ -1,6 +1,7 @@
 //! The constants of `raw`, the refusals, kinds, types and sorts are those of the C header, none left out.
 use sangvireb::{raw, Kind, Refusal, Sort, Type};
 use std::collections::BTreeMap;
+use std::fmt::Debug;
 use std::fs;
 
 fn without_comments(text: &str) -> String {
@@ -26,9 +27,9 @@ macro_rules! of_raw {
 }
 
 /// `NoEdge` is `NO_EDGE` in C.
-fn in_c(refusal: Refusal) -> String {
+fn in_c(named: impl Debug) -> String {
     let mut name = String::new();
-    for letter in format!("{refusal:?}").chars() {
+    for letter in format!("{named:?}").chars() {
         if letter.is_uppercase() && !name.is_empty() {
             name.push('_');
         }
@@ -39,13 +40,13 @@ fn in_c(refusal: Refusal) -> String {
 
 /// The sets that are numbered without a gap, with the names that the header's end in.
 fn numbered() -> [Vec<(String, usize)>; 4] {
-    let told = "VERSION BLOCKS VARIABLES DESTS MADE CALLS GRAPH_NEED FORM_NEED WORK_NEED KINDS TYPES SORTS";
-    let set = |names: Vec<&str>, first: usize| names.into_iter().map(str::to_uppercase).zip(first..).collect();
+    let told = "VERSION BLOCKS VARIABLES DESTS MADE CALLS GRAPH_NEED FORM_NEED WORK_NEED KINDS TYPES SORTS OWN_PARAMS";
+    let set = |names: Vec<String>, first: usize| names.into_iter().zip(first..).collect();
     [
-        set(Kind::ALL.iter().map(|kind| kind.name()).collect(), 1),
-        set(Type::ALL.iter().map(|ty| ty.name()).collect(), 0),
-        set(Sort::ALL.iter().map(|sort| sort.name()).collect(), 0),
-        set(told.split(' ').collect(), 0),
+        set(Kind::ALL.iter().map(|kind| kind.name().to_uppercase()).collect(), 1),
+        set(Type::ALL.iter().map(|ty| ty.name().to_uppercase()).collect(), 0),
+        set(Sort::ALL.iter().map(in_c).collect(), 0),
+        set(told.split(' ').map(str::to_string).collect(), 0),
     ]
 }
 
@@ -57,9 +58,10 @@ fn ending_in(header: &BTreeMap<String, usize>, end: &str, number: usize) -> Opti
 fn the_constants_are_the_headers() {
     let mut expected = header();
     let ours = of_raw!(
-        VERSION BLOCKS VARIABLES DESTS MADE CALLS GRAPH_NEED FORM_NEED WORK_NEED
-        BLOCK_COUNT TYPES BRANCHES SEALED EVER_DECLARED DEST_ROWS DEST_ROW PRED_ROWS PRED_ROW
-        VALUE_COUNT MADE_COUNT TARGET DESCRIBED PLACED ZERO_CALLS ZERO_BLOCKS PARAM_ROWS PENDING_ROWS DEFS ARG_ROWS PARAM_ROW PARAM_CELLS ARG_CELLS
+        VERSION BLOCKS VARIABLES DESTS MADE OWN_PARAMS CALLS GRAPH_NEED FORM_NEED WORK_NEED
+        BLOCK_COUNT TYPES BRANCHES SEALED EVER_DECLARED MARKS DEST_ROWS DEST_ROW PRED_ROWS PRED_ROW
+        VALUE_COUNT MADE_COUNT TARGET DESCRIBED PLACED ZERO_CALLS ZERO_BLOCKS PARAM_ROWS OWNS PENDING_ROWS DEFS ARG_ROWS
+        PARAM_ROOM PARAM_ROW PARAM_CELLS ARG_CELLS PENDING_ROW
         RUN SHORT UNFIT NO_ROOM NOT_DRAWABLE
     );
     let refusals = Refusal::ALL.map(|refusal| (in_c(refusal), refusal.code() as usize));

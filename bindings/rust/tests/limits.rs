@@ -27,6 +27,38 @@ fn made_values() {
     assert_eq!((session.value_count(), session.made_count()), (4096, 4096));
 }
 
+/// 64 parameters of the caller's and 64 of the builder's: a row of 128, and an argument for each at each of eight destinations.
+#[test]
+fn parameters_of_a_block() {
+    let mut list = List::new();
+    let (start, side, join) = (Block(0), Block(1), Block(2));
+    for block in [start, side, join] {
+        let _ = list.declare_block(block);
+    }
+    let own: Vec<_> = (0..=64).map(|_| list.append_block_param(join, Type::I32)).collect();
+    for number in 0..64 {
+        let _ = list.declare_var(Variable(number), Type::I32);
+        for (made, block) in [(64 + 2 * number, start), (65 + 2 * number, side)] {
+            let _ = list.make_value(block, Type::I32);
+            let _ = list.def_var(Variable(number), Value(made), block);
+        }
+    }
+    let given: Vec<_> = (0..64).map(Value).collect();
+    let _ = list.branch_with(start, &[(join, &given[..]); 8]);
+    let _ = list.branch_with(side, &[(join, &given[..])]);
+    let _ = list.seal_all_blocks();
+    for number in 0..64 {
+        let _ = list.use_var(Variable(number), join);
+    }
+    let session = list.run_all().unwrap();
+    assert_eq!((session.answer(own[63]), code(session.answer(own[64]))), (Ok(Value(63)), Err(Refusal::NoParamLeft)));
+    assert_eq!(session.refusals().count(), 1);
+    assert_eq!((session.params(join).unwrap().len(), session.caller_params(join).unwrap().len()), (raw::PARAM_ROOM, raw::OWN_PARAMS));
+    for branch in [start, side].map(|block| session.branch(block).unwrap().unwrap()) {
+        assert!(session.destinations(branch).unwrap().all(|way| way.args.len() == 128 && way.args.take(64).eq(given.iter().copied())));
+    }
+}
+
 /// Zeros for all variables in all blocks, none of which has a predecessor.
 fn unset_everywhere() -> List {
     let mut list = List::new();
@@ -97,5 +129,5 @@ fn types_know_their_width_and_their_unset_value() {
     assert_eq!((raw::unset_bits(6), raw::unset_bits(u32::MAX)), (0, 0));
     assert!(Type::ALL.iter().all(|&ty| Type::from_number(ty.number()) == Some(ty)));
     assert_eq!(Type::from_number(6), None);
-    assert_eq!((Kind::from_number(0), Kind::from_number(14), Kind::from_number(15)), (None, Some(Kind::IsSealed), None));
+    assert_eq!((Kind::from_number(0), Kind::from_number(17), Kind::from_number(18)), (None, Some(Kind::MarkVarNeedsStackMap), None));
 }

@@ -35,7 +35,7 @@ fn said(calls: &[[u32; 4]]) -> String {
 #[test]
 fn every_refusal_of_every_kind() {
     let expected = [
-        ([0, 7, 8, 9], "kind 0 with 7, 8 and 9: kinds are 1 to 14"),
+        ([0, 7, 8, 9], "kind 0 with 7, 8 and 9: kinds are 1 to 17"),
         ([1, 64, 0, 0], "declare_block of block 64: the limit is 64 blocks, 0 to 63"),
         ([1, 4, 0, 0], "declare_block of block 4: the next is block 3"),
         ([2, 64, 2, 0], "declare_var of variable 64 as I32: the limit is 64 variables, 0 to 63"),
@@ -76,6 +76,21 @@ fn every_refusal_of_every_kind() {
         ([11, 1, 0, 0], "seal_block of block 1: block 1 is sealed"),
         ([13, 3, 0, 0], "has_any_predecessors of block 3: block 3 is not declared; 3 blocks are"),
         ([14, 4, 0, 0], "is_sealed of block 4: block 4 is not declared; 3 blocks are"),
+        ([15, 3, 2, 0], "append_block_param of I32 to block 3: block 3 is not declared; 3 blocks are"),
+        ([15, 2, 6, 0], "append_block_param of type 6 to block 2: type 6 is unknown; types are 0 to 5"),
+        ([15, 1, 2, 0], "append_block_param of I32 to block 1: block 1 is sealed, and the caller's parameters stand before the builder's"),
+        ([16, 1, 0, 0], "append_argument of value 0 to destination 0 of branch 1: block 1 has no branch"),
+        ([16, 0, 9, 0], "append_argument of value 9 to destination 0 of branch 0: value 9 is not there; 2 values are"),
+        ([16, 0, 0, 2], "append_argument of value 0 to destination 2 of branch 0: branch 0 has no destination 2; it has 2"),
+        (
+            [16, 0, 0, 0],
+            "append_argument of value 0 to destination 0 of branch 0: branch 0 is declared to block 1, so its caller's arguments are fixed",
+        ),
+        ([17, 2, 0, 0], "mark_var_needs_stack_map of variable 2: variable 2 is not declared; 2 variables are"),
+        (
+            [17, 0, 0, 0],
+            "mark_var_needs_stack_map of variable 0: variable 0 is value 0 in block 0 already, and a variable is marked before it has any definition",
+        ),
     ];
     for (call, words) in expected {
         assert_eq!(said(&[call]), format!("call 15, {words}"));
@@ -89,6 +104,51 @@ fn every_refusal_of_every_kind() {
         "call 23, new_dest of branch 2 to block 1: branch 2 has 8 destinations, which is the limit"
     );
     assert_eq!(said(&[[3, 1, 0, 0]; raw::MADE - 1]), "call 4109, make_value of I8 in block 1: 4096 values are made, which is the limit");
+}
+
+#[test]
+fn refusals_of_a_callers_parameters_and_arguments() {
+    let expected: [(&[[u32; 4]], &str); 8] = [
+        (
+            &[[9, 2, 0, 0], [15, 2, 5, 0]],
+            "call 16, append_block_param of F64 to block 2: branch 0 is declared to block 2, and the caller's parameters stand before the builder's",
+        ),
+        (
+            &[[6, 1, 2, 0], [15, 2, 5, 0]],
+            "call 16, append_block_param of F64 to block 2: variable 1 waits in block 2, and the caller's parameters stand before the builder's",
+        ),
+        (
+            &[[15, 2, 5, 0]; 1 + raw::OWN_PARAMS],
+            "call 79, append_block_param of F64 to block 2: block 2 has 64 parameters of the caller's, which is the limit",
+        ),
+        (
+            &[[8, 2, 1, 0], [16, 2, 0, 0]],
+            "call 16, append_argument of value 0 to destination 0 of branch 2: block 1 has no parameter of the caller's",
+        ),
+        (
+            &[[15, 2, 2, 0], [8, 2, 2, 0], [16, 2, 0, 0], [16, 2, 0, 0]],
+            "call 18, append_argument of value 0 to destination 0 of branch 2: \
+             block 2 has 1 parameter of the caller's, and destination 0 has its argument",
+        ),
+        (
+            &[[15, 2, 2, 0], [15, 2, 2, 0], [8, 2, 2, 0], [16, 2, 0, 0], [16, 2, 3, 0], [16, 2, 0, 0]],
+            "call 20, append_argument of value 0 to destination 0 of branch 2: \
+             block 2 has 2 parameters of the caller's, and destination 0 has an argument for each",
+        ),
+        (
+            &[[15, 2, 0, 0], [8, 2, 2, 0], [16, 2, 0, 0]],
+            "call 17, append_argument of value 0 to destination 0 of branch 2: the parameter value 2 of block 2 is I8 and value 0 is I32",
+        ),
+        (
+            &[[15, 2, 2, 0], [15, 2, 5, 0], [8, 2, 2, 0], [16, 2, 2, 0], [16, 2, 2, 0]],
+            "call 19, append_argument of value 2 to destination 0 of branch 2: the parameter value 3 of block 2 is F64 and value 2 is I32",
+        ),
+    ];
+    for (calls, words) in expected {
+        assert_eq!(said(calls), words);
+    }
+    let full = [&[[3, 1, 0, 0]; raw::MADE - 2][..], &[[15, 2, 2, 0]]].concat();
+    assert_eq!(said(&full), "call 4109, append_block_param of I32 to block 2: 4096 values are made, which is the limit");
 }
 
 #[test]

@@ -98,11 +98,21 @@ fn resolving_over_any_list() {
 #[test]
 fn a_row_is_a_part_of_the_lent_table() {
     let params = vec![2; raw::PARAM_CELLS];
-    let args = vec![raw::VARIABLES as u32; raw::ARG_CELLS];
+    let args = vec![raw::PARAM_ROOM as u32; raw::ARG_CELLS];
     let row = raw::row(&params, &args, Asked::Params(Block(3)));
     assert_eq!(row.as_ptr_range(), params[3 * raw::PARAM_ROW + 1..][..2].as_ptr_range());
     let row = raw::row(&params, &args, Asked::Args(Branch(63), 7));
     assert_eq!(row.as_ptr_range(), args[511 * raw::PARAM_ROW + 1..].as_ptr_range());
+}
+
+#[test]
+fn recorded_values_of_any_descriptions() {
+    let described = [0, 128, 127, 255, 256, u32::MAX];
+    let recorded = [(0, 0), (0, 1), (0, 0), (0, 1), (0, 0), (0, 1), (6, 0)];
+    assert!((0..7).map(|value| raw::recorded(&described, value)).eq(recorded));
+    assert_eq!(raw::recorded(&[], 0), (6, 0));
+    assert_eq!([0, 1, 2, 3, 4, 5].map(|from| raw::next_recorded(&described, from)), [1, 1, 3, 3, 5, 5]);
+    assert!(raw::next_recorded(&described, 6) >= 6 && raw::next_recorded(&described[..5], 4) >= 5 && raw::next_recorded(&[], usize::MAX) == usize::MAX);
 }
 
 fn told<'a>(params: &'a [u32], args: &'a [u32], asked: Asked) -> (u32, &'a [u32]) {
@@ -119,7 +129,7 @@ fn a_row_that_is_not_there_is_told_from_an_empty_one() {
     for asked in past {
         assert_eq!(told(&empty, &empty, asked), (6, &[][..]));
     }
-    for count in [raw::VARIABLES as u32 + 1, u32::MAX] {
+    for count in [raw::PARAM_ROOM as u32 + 1, u32::MAX] {
         assert_eq!(told(&[], &[count; raw::ARG_CELLS], Asked::Args(Branch(0), 0)), (6, &[][..]));
     }
 }

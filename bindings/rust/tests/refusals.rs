@@ -1,7 +1,7 @@
 //! Every refusal, by a call that gets it; and a refused call leaves the builder as it was.
 mod common;
 use common::{branch, builder, code, set, FIRST};
-use sangvireb::{raw, Block, Branch, List, Refusal, Refused, RefusedWhole, SSABuilder, Type, Value, Variable};
+use sangvireb::{raw, Block, Branch, Kind, List, Refusal, Refused, RefusedWhole, SSABuilder, Type, Value, Variable};
 
 /// The call gets this refusal, and nothing else is different afterwards.
 fn refused<T: std::fmt::Debug>(ssa: &mut SSABuilder, refusal: Refusal, call: impl FnOnce(&mut SSABuilder) -> Result<T, Refused>) {
@@ -16,7 +16,7 @@ fn refused<T: std::fmt::Debug>(ssa: &mut SSABuilder, refusal: Refusal, call: imp
 #[test]
 fn an_unknown_kind() {
     let mut list = List::new();
-    let calls = [0, 15, u32::MAX].map(|kind| list.push([kind, 0, 0, 0]));
+    let calls = [0, Kind::ALL.len() as u32 + 1, u32::MAX].map(|kind| list.push([kind, 0, 0, 0]));
     let known = list.push([1, 0, 7, 7]);
     let session = list.run_all().unwrap();
     assert!(calls.iter().all(|&call| code(session.answer(call)) == Err(Refusal::UnknownKind)));
@@ -51,6 +51,8 @@ fn what_is_not_there() {
     refused(&mut ssa, Refusal::Absent, |ssa| ssa.session().value(Value(0)));
     refused(&mut ssa, Refusal::Absent, |ssa| ssa.session().def(FIRST, Block(1)));
     refused(&mut ssa, Refusal::Absent, |ssa| ssa.session().type_of(Variable(1)));
+    refused(&mut ssa, Refusal::Absent, |ssa| ssa.session().is_marked(Variable(1)));
+    refused(&mut ssa, Refusal::Absent, |ssa| ssa.session().is_recorded(Value(0)));
 }
 
 #[test]
@@ -92,6 +94,67 @@ fn a_definition_after_the_branch_was_declared() {
     assert_eq!(ssa.remove_block_predecessor(Block(1), branch), Ok(0));
     refused(&mut ssa, Refusal::Late, |ssa| ssa.def_var(FIRST, value, Block(0)));
     assert_eq!(ssa.def_var(FIRST, value, Block(1)), Ok(value));
+}
+
+#[test]
+fn a_callers_parameter_where_it_cannot_be() {
+    let mut ssa = builder(3);
+    refused(&mut ssa, Refusal::Absent, |ssa| ssa.append_block_param(Block(3), Type::I32));
+    assert_eq!(ssa.append_block_param(Block(0), Type::I32), Ok(Value(0)));
+    let branch = branch(&mut ssa, 0, &[1]);
+    refused(&mut ssa, Refusal::ParamsFixed, |ssa| ssa.append_block_param(Block(1), Type::I32));
+    assert_eq!(ssa.append_block_param(Block(0), Type::I8), Ok(Value(1)));
+    assert_eq!(ssa.remove_block_predecessor(Block(1), branch), Ok(0));
+    assert_eq!(ssa.append_block_param(Block(1), Type::I32), Ok(Value(2)));
+    assert_eq!(ssa.use_var(FIRST, Block(1)), Ok(Value(3)));
+    refused(&mut ssa, Refusal::ParamsFixed, |ssa| ssa.append_block_param(Block(1), Type::I32));
+    assert_eq!(ssa.seal_block(Block(2)), Ok(0));
+    refused(&mut ssa, Refusal::ParamsFixed, |ssa| ssa.append_block_param(Block(2), Type::I32));
+    assert!(ssa.session().caller_params(Block(1)).unwrap().eq([Value(2)]));
+    assert!(ssa.session().params(Block(1)).unwrap().eq([Value(2), Value(3)]));
+}
+
+#[test]
+fn an_argument_where_it_cannot_be() {
+    let mut ssa = builder(3);
+    let own = ssa.append_block_param(Block(1), Type::I32).unwrap();
+    let [narrow, made] = [Type::I8, Type::I32].map(|ty| ssa.make_value(Block(0), ty).unwrap());
+    refused(&mut ssa, Refusal::Absent, |ssa| ssa.append_argument(Branch(0), made, 0));
+    let branch = ssa.new_branch(Block(0)).unwrap();
+    refused(&mut ssa, Refusal::Absent, |ssa| ssa.append_argument(branch, made, 0));
+    for to in [1, 2] {
+        ssa.new_dest(branch, Block(to)).unwrap();
+    }
+    refused(&mut ssa, Refusal::Absent, |ssa| ssa.append_argument(branch, Value(9), 0));
+    refused(&mut ssa, Refusal::NoParamLeft, |ssa| ssa.append_argument(branch, narrow, 1));
+    refused(&mut ssa, Refusal::TypesDiffer, |ssa| ssa.append_argument(branch, narrow, 0));
+    assert_eq!(ssa.append_argument(branch, made, 0), Ok(0));
+    refused(&mut ssa, Refusal::NoParamLeft, |ssa| ssa.append_argument(branch, made, 0));
+    ssa.declare_block_predecessor(Block(1), branch).unwrap();
+    refused(&mut ssa, Refusal::Declared, |ssa| ssa.append_argument(branch, made, 0));
+    let way = ssa.session().destinations(branch).unwrap().next().unwrap();
+    assert!(way.args.eq([made]) && ssa.session().caller_params(way.target).unwrap().eq([own]));
+}
+
+#[test]
+fn a_mark_after_a_definition() {
+    let mut ssa = builder(3);
+    refused(&mut ssa, Refusal::Absent, |ssa| ssa.mark_var_needs_stack_map(Variable(1)));
+    assert_eq!(ssa.mark_var_needs_stack_map(FIRST), Ok(FIRST));
+    assert_eq!(ssa.mark_var_needs_stack_map(FIRST), Ok(FIRST));
+    for variable in 1..4 {
+        assert_eq!(ssa.declare_var(Variable(variable), Type::I32), Ok(Variable(variable)));
+    }
+    // a pending use puts a parameter on record, and so does one that adds a zero: each is a definition too
+    assert_eq!(ssa.use_var(Variable(1), Block(2)), Ok(Value(0)));
+    refused(&mut ssa, Refusal::Defined, |ssa| ssa.mark_var_needs_stack_map(Variable(1)));
+    assert_eq!(ssa.seal_block(Block(0)), Ok(0));
+    assert_eq!(ssa.use_var(Variable(2), Block(0)), Ok(Value(2)));
+    refused(&mut ssa, Refusal::Defined, |ssa| ssa.mark_var_needs_stack_map(Variable(2)));
+    set(&mut ssa, FIRST, 1);
+    refused(&mut ssa, Refusal::Defined, |ssa| ssa.mark_var_needs_stack_map(FIRST));
+    assert_eq!(ssa.mark_var_needs_stack_map(Variable(3)), Ok(Variable(3)));
+    assert!(ssa.session().variables().map(|variable| ssa.session().is_marked(variable)).eq([Ok(true), Ok(false), Ok(false), Ok(true)]));
 }
 
 #[test]
@@ -150,8 +213,8 @@ fn whole_sessions() {
 #[test]
 fn every_refusal_has_its_code_and_its_words() {
     let codes: Vec<u32> = Refusal::ALL.iter().map(|refusal| refusal.code()).collect();
-    assert!(codes.into_iter().eq((3..=14).chain([20])));
-    assert!([0, 1, 2, 15, 21, u32::MAX].into_iter().all(|code| Refusal::from_code(code).is_none()));
+    assert!(codes.into_iter().eq((3..=14).chain(17..=20)));
+    assert!([0, 1, 2, 15, 16, 21, u32::MAX].into_iter().all(|code| Refusal::from_code(code).is_none()));
     let words: std::collections::BTreeSet<String> = Refusal::ALL.iter().map(|refusal| refusal.to_string()).collect();
     assert_eq!(words.len(), Refusal::ALL.len());
 }

@@ -5,6 +5,15 @@ use crate::odd;
 use crate::rng::Rng;
 use crate::shapes::Graph;
 use crate::{Call, MAX_CALLS};
+use sangvireb::Type;
+
+/// A value that a call of this list brings: its number is known only after a run.
+#[derive(Clone, Copy)]
+struct Brought {
+    call: usize,
+    ty: u32,
+    block: u32,
+}
 
 struct Use {
     call: u32,
@@ -21,7 +30,11 @@ pub struct Draft<'r> {
     types: Vec<u32>,
     uses: Vec<Use>,
     makes: u32,
-    /// definitions and the calls that made their values, whose numbers are known only after a run
+    /// values that were made, answered, or are parameters of the caller's
+    brought: Vec<Brought>,
+    /// by block, its parameters of the caller's, as far as they were asked for when it was declared
+    owns: Vec<Vec<Brought>>,
+    /// definitions and arguments, and the calls that bring their values
     owed: Vec<(usize, usize)>,
     /// edges (block, branch) that wait to be declared
     waiting: Vec<(u32, u32)>,
@@ -39,8 +52,9 @@ impl<'r> Draft<'r> {
                 missing[d as usize] += 1;
             }
         }
-        let types = (0..manner.vars).map(|_| if manner.many_types { rng.below(6) } else { 2 }).collect();
+        let types = (0..manner.vars).map(|_| any_type(&manner, rng)).collect();
         let sealed = vec![false; graph.len()];
+        let owns = vec![vec![]; graph.len()];
         Draft {
             rng,
             manner,
@@ -48,10 +62,12 @@ impl<'r> Draft<'r> {
             types,
             missing,
             sealed,
+            owns,
             blocks: 0,
             makes: 0,
             calls: vec![],
             uses: vec![],
+            brought: vec![],
             owed: vec![],
             waiting: vec![],
             declared: vec![],
@@ -104,14 +120,51 @@ impl<'r> Draft<'r> {
         }
         for v in 0..self.types.len() {
             self.push([2, v as u32, self.types[v], 0]);
+            if self.rng.chance(self.manner.marked, 100) {
+                self.mark(v as u32);
+            }
+        }
+    }
+
+    /// Now and then twice.
+    fn mark(&mut self, v: u32) {
+        for _ in 0..self.rng.pick(&[1, 1, 1, 2]) {
+            self.push([17, v, 0, 0]);
         }
     }
 
     fn need_block(&mut self, b: u32) {
         while self.blocks <= b {
-            self.push([1, self.blocks, 0, 0]);
+            let b = self.blocks;
+            self.push([1, b, 0, 0]);
             self.blocks += 1;
+            for _ in 0..self.rng.below(self.manner.own_params + 1) {
+                let own = self.own_param(b);
+                self.owns[b as usize].push(own);
+            }
         }
+    }
+
+    fn bring(&mut self, call: Call, ty: u32, block: u32) -> Brought {
+        let brought = Brought { call: self.push(call), ty, block };
+        self.brought.push(brought);
+        brought
+    }
+
+    fn own_param(&mut self, b: u32) -> Brought {
+        let ty = any_type(&self.manner, self.rng);
+        self.bring([15, b, ty, 0], ty, b)
+    }
+
+    fn make(&mut self, b: u32, ty: u32) -> Brought {
+        self.makes += 1;
+        self.bring([3, b, ty, 0], ty, b)
+    }
+
+    /// A call that names the value in its second number.
+    fn owe(&mut self, call: Call, brought: Brought) {
+        let place = self.push(call);
+        self.owed.push((place, brought.call));
     }
 
     /// Each block acts a few times and then branches, one block after the other or in turns.
@@ -160,7 +213,7 @@ impl<'r> Draft<'r> {
 
     fn act(&mut self, b: u32) {
         let v = self.rng.below(self.types.len() as u32);
-        match self.rng.below(12) {
+        match self.rng.below(15) {
             0..=3 => self.give_made(v, b),
             4..=7 => self.use_var(v, b),
             8 => {
@@ -169,6 +222,9 @@ impl<'r> Draft<'r> {
             }
             9 => self.give_answer(v, b),
             10 if !self.manner.proper => self.give_anything(v, b),
+            11 => self.give_own(v, b),
+            12 if !self.manner.proper => self.late_param(),
+            13 if self.manner.marked > 0 => self.mark(v),
             _ => {
                 let kind = self.rng.within(13, 14);
                 let asked = self.any_block();
@@ -178,15 +234,58 @@ impl<'r> Draft<'r> {
     }
 
     fn use_var(&mut self, var: u32, block: u32) {
-        let call = self.push([6, var, block, 0]) as u32;
+        let ty = self.types[var as usize];
+        let call = self.bring([6, var, block, 0], ty, block).call as u32;
         self.uses.push(Use { call, var, block });
     }
 
     fn give_made(&mut self, v: u32, b: u32) {
-        let make = self.push([3, b, self.types[v as usize], 0]);
-        self.makes += 1;
-        let definition = self.push([4, v, self.makes - 1, b]);
-        self.owed.push((definition, make));
+        let made = self.make(b, self.types[v as usize]);
+        self.owe([4, v, self.makes - 1, b], made);
+    }
+
+    /// A parameter of the caller's that the block itself has.
+    fn give_own(&mut self, v: u32, b: u32) {
+        let fitting: Vec<Brought> = self.owns[b as usize].iter().filter(|own| own.ty == self.types[v as usize]).copied().collect();
+        if !fitting.is_empty() {
+            let own = self.rng.pick(&fitting);
+            self.owe([4, v, 0, b], own);
+        }
+    }
+
+    /// A parameter of the caller's on any block at any time: too late, or one that the destinations so far have no argument for.
+    fn late_param(&mut self) {
+        let b = self.any_block();
+        self.own_param(b);
+    }
+
+    /// An argument at any time, of any value that was brought.
+    fn late_argument(&mut self, b: u32) {
+        if !self.brought.is_empty() {
+            let (brought, place) = (self.rng.pick(&self.brought), self.rng.below(3));
+            self.owe([16, b, 0, place], brought);
+        }
+    }
+
+    /// A value of this type for a destination of block b's branch: one that the block has, or a new one; astray, one of any block.
+    fn argument(&mut self, b: u32, ty: u32) -> Brought {
+        let anywhere = self.rng.chance(self.manner.astray, 100);
+        let fits = |brought: &&Brought| brought.ty == ty && (anywhere || brought.block == b);
+        let fitting: Vec<Brought> = self.brought.iter().rev().filter(fits).take(8).copied().collect();
+        if !fitting.is_empty() && self.rng.chance(2, 3) { self.rng.pick(&fitting) } else { self.make(b, ty) }
+    }
+
+    /// The arguments that block b's branch gives to block d. Unless the list is proper, some are left out, of another type, or too many.
+    fn arguments(&mut self, b: u32, d: u32) -> Vec<Brought> {
+        let mut types: Vec<u32> = self.owns[d as usize].iter().map(|own| own.ty).collect();
+        if !self.manner.proper && self.rng.chance(self.manner.astray, 100) {
+            match self.rng.below(3) {
+                0 => drop(types.pop()),
+                1 => types.reverse(),
+                _ => types.push(any_type(&self.manner, self.rng)),
+            }
+        }
+        types.into_iter().map(|ty| self.argument(b, ty)).collect()
     }
 
     /// What an earlier use answered, which may have become an alias since.
@@ -209,10 +308,14 @@ impl<'r> Draft<'r> {
         if dests.is_empty() && self.rng.chance(1, 2) {
             return;
         }
+        dests.iter().for_each(|&d| self.need_block(d));
+        let arguments: Vec<Vec<Brought>> = dests.iter().map(|&d| self.arguments(b, d)).collect();
         self.push([7, b, 0, 0]);
-        for &d in &dests {
-            self.need_block(d);
+        for (&d, place) in dests.iter().zip(0..) {
             self.push([8, b, d, 0]);
+            for &argument in &arguments[place as usize] {
+                self.owe([16, b, 0, place], argument);
+            }
         }
         self.waiting.extend(distinct(&dests).into_iter().map(|d| (d, b)));
         let leave = if self.manner.edges_wait { self.rng.below(self.waiting.len() as u32 + 1) } else { 0 };
@@ -249,6 +352,10 @@ impl<'r> Draft<'r> {
         }
         let (d, b) = self.declared.remove(self.rng.pick(&open));
         self.push([10, d, b, 0]);
+        if !self.manner.proper && self.rng.chance(1, 3) {
+            self.own_param(d);
+            self.late_argument(b);
+        }
         if self.manner.proper || self.rng.chance(2, 3) {
             self.waiting.push((d, b));
             self.missing[d as usize] += 1;
@@ -272,7 +379,7 @@ impl<'r> Draft<'r> {
     fn tail(&mut self) {
         for _ in 0..self.rng.below(self.manner.tail + 1) {
             let (b, v) = (self.any_block(), self.rng.below(self.types.len() as u32));
-            match self.rng.below(if self.manner.proper { 6 } else { 12 }) {
+            match self.rng.below(if self.manner.proper { 6 } else { 15 }) {
                 0..=5 => self.use_var(v, b),
                 6 => self.give_answer(v, b),
                 7 => self.give_anything(v, b),
@@ -282,10 +389,17 @@ impl<'r> Draft<'r> {
                     self.push([kind, b, other, 0]);
                 }
                 9 => self.seal(b),
+                10 => self.late_param(),
+                11 => self.late_argument(b),
+                12 if self.manner.marked > 0 => self.mark(v),
                 _ => self.act(b),
             }
         }
     }
+}
+
+fn any_type(manner: &Manner, rng: &mut Rng) -> u32 {
+    if manner.many_types { rng.below(Type::ALL.len() as u32) } else { 2 }
 }
 
 fn distinct(dests: &[u32]) -> Vec<u32> {

@@ -9,7 +9,7 @@ use sangvireb::raw::{self, *};
 use std::fmt;
 
 /// More bytes than a picture has.
-const MOST: usize = 1 << 19;
+const MOST: usize = 1 << 20;
 /// The codes that a drawing can get.
 const CODES: [u32; 4] = [0, SHORT, NO_ROOM, NOT_DRAWABLE];
 
@@ -41,12 +41,12 @@ pub fn due_text(graph: &[u32], form: &[u32]) -> Option<String> {
     }
     let (mut lines, mut edges) = (String::new(), String::new());
     for b in 0..blocks as usize {
-        lines += &format!("b{b} [label=\"b{b}({})\"];\n", values(row(form, PARAM_ROWS + PARAM_ROW * b, VARIABLES, count)?));
+        lines += &format!("b{b} [label=\"b{b}({})\"];\n", values(row(form, PARAM_ROWS + PARAM_ROW * b, PARAM_ROOM, count)?));
         if graph[BRANCHES + b] == 0 {
             continue;
         }
         for (i, to) in row(graph, DEST_ROWS + DEST_ROW * b, DESTS, blocks)?.iter().enumerate() {
-            edges += &format!("b{b} -> b{to} [label=\"{}\"];\n", values(row(form, ARG_ROWS + PARAM_ROW * (DESTS * b + i), VARIABLES, count)?));
+            edges += &format!("b{b} -> b{to} [label=\"{}\"];\n", values(row(form, ARG_ROWS + PARAM_ROW * (DESTS * b + i), PARAM_ROOM, count)?));
         }
     }
     Some(format!("digraph f {{\n{lines}{edges}}}\n"))
@@ -85,7 +85,7 @@ fn spoil(graph: &mut [u32], form: &mut [u32], rng: &mut Rng) {
     let place = rng.below(DESTS as u32) as usize;
     let (blocks, values) = (graph[BLOCK_COUNT].min(BLOCKS as u32), form[VALUE_COUNT].min(VALUE_ROOM as u32));
     let (dests, params, args) = (DEST_ROWS + DEST_ROW * block, PARAM_ROWS + PARAM_ROW * block, ARG_ROWS + PARAM_ROW * (DESTS * block + place));
-    let entry = rng.pick(&[1, 1, 2, 3, VARIABLES]);
+    let entry = rng.pick(&[1, 1, 2, 3, PARAM_ROOM]);
     match rng.below(9) {
         0 => graph[BLOCK_COUNT] = near(BLOCKS as u32, rng),
         1 => form[VALUE_COUNT] = near(VALUE_ROOM as u32, rng),
@@ -93,7 +93,7 @@ fn spoil(graph: &mut [u32], form: &mut [u32], rng: &mut Rng) {
         3 => graph[BRANCHES + block] = rng.pick(&[0, 1, 2, u32::MAX]),
         4 => graph[dests] = near(DESTS as u32, rng),
         5 => graph[dests + 1 + place] = near(blocks, rng),
-        6 => form[rng.pick(&[params, args])] = near(VARIABLES as u32, rng),
+        6 => form[rng.pick(&[params, args])] = near(PARAM_ROOM as u32, rng),
         7 => form[params + entry] = near(values, rng),
         _ => form[args + entry] = near(values, rng),
     }

@@ -8,6 +8,8 @@ pub enum Field {
     Value,
     Type,
     Call,
+    /// of a destination
+    Place,
     Unread,
 }
 
@@ -17,11 +19,13 @@ pub fn fields(kind: u32) -> [Field; 3] {
     match kind {
         1 | 7 | 11 | 13 | 14 => [Block, Unread, Unread],
         2 => [Variable, Type, Unread],
-        3 => [Block, Type, Unread],
+        3 | 15 => [Block, Type, Unread],
         4 => [Variable, Value, Block],
         5 => [Variable, Call, Block],
         6 => [Variable, Block, Unread],
         8..=10 => [Block, Block, Unread],
+        16 => [Block, Value, Place],
+        17 => [Variable, Unread, Unread],
         _ => [Unread; 3],
     }
 }

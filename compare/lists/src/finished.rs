@@ -48,6 +48,11 @@ impl<'a> Finished<'a> {
         self.listed(Asked::Params(Block(b)))
     }
 
+    /// Those of its parameters that are the caller's.
+    pub fn own_params(&self, b: u32) -> &'a [u32] {
+        &self.params(b)[..self.form[OWNS + b as usize] as usize]
+    }
+
     /// The arguments of the branch's destination at this place.
     pub fn args(&self, branch: u32, place: usize) -> &'a [u32] {
         self.listed(Asked::Args(Branch(branch), place as u32))
@@ -62,7 +67,7 @@ impl<'a> Finished<'a> {
         sort == 2 && home == block
     }
 
-    /// 0 made, 1 parameter, 2 zero.
+    /// 0 made, 1 parameter, 2 zero, 3 caller's parameter.
     pub fn sort(&self, value: u32) -> u32 {
         self.described(value).1
     }

@@ -6,7 +6,7 @@ use crate::progress::Progress;
 use crate::rng::Rng;
 use crate::{Call, MAX_CALLS, limits, odd};
 use sangvireb::raw::{self, Asked};
-use sangvireb::{Block, Branch};
+use sangvireb::{Block, Branch, Kind};
 use std::ops::Range;
 use std::os::unix::process::ExitStatusExt;
 use std::process::{Command, ExitCode};
@@ -17,6 +17,8 @@ type Lists = [Vec<u32>; 9];
 /// How many cells more than its need a list has at most.
 pub const SPARE: usize = 64;
 const SIGSEGV: i32 = 11;
+/// Numbers below this are a row's room or near it.
+const SMALL: u32 = raw::PARAM_ROOM as u32 + 6;
 
 struct Field {
     grounds: [Ground; 9],
@@ -32,6 +34,8 @@ struct Figures {
     resolved: [u64; 3],
     /// rows with entries, empty rows, no row
     rows: [u64; 3],
+    /// values recorded, not recorded, not there
+    recorded: [u64; 3],
 }
 
 fn calls(rng: &mut Rng) -> Vec<Call> {
@@ -93,8 +97,8 @@ pub fn garbage(len: usize, rng: &mut Rng) -> Vec<u32> {
     let (same, small) = (rng.any(), rng.chance(1, 3));
     match rng.below(4) {
         0 => vec![u32::MAX; len],
-        1 => vec![same % 70; len],
-        _ => (0..len).map(|_| if small { rng.below(70) } else { rng.any() }).collect(),
+        1 => vec![same % SMALL; len],
+        _ => (0..len).map(|_| if small { rng.below(SMALL) } else { rng.any() }).collect(),
     }
 }
 
@@ -153,8 +157,15 @@ fn check(before: &Lists, code: u32, after: &Lists) -> Result<(), String> {
 fn check_answers(after: &Lists) -> Result<(), String> {
     let [kinds, _, _, _, codes, numbers, _, _, work] = after;
     for (i, kind) in kinds.iter().enumerate() {
-        let unknown = !(1..=14).contains(kind);
-        let given = matches!(codes[i], 0 | 3..=13) || codes[i] == 20 && [4, 5].contains(kind);
+        let unknown = Kind::from_number(*kind).is_none();
+        let given = match codes[i] {
+            0 | 3..=13 => true,
+            17 => *kind == 15,
+            18 => [15, 16].contains(kind),
+            19 => *kind == 17,
+            20 => [4, 5].contains(kind),
+            _ => false,
+        };
         if !given || unknown != (codes[i] == 3) || codes[i] != 0 && numbers[i] != 0 {
             return Err(format!("call {i} of kind {kind} gets code {} and number {}", codes[i], numbers[i]));
         }
@@ -231,6 +242,38 @@ fn resolve_round(field: &mut Field, rng: &mut Rng, figures: &mut Figures) -> Res
     Ok(())
 }
 
+/// What docs/RULES.md says of recorded values, taken literally.
+fn recorded_due(described: &[u32], value: u32) -> (u32, u32) {
+    described.get(value as usize).map_or((6, 0), |cell| (0, cell >> 7 & 1))
+}
+
+/// Descriptions of any length that hold anything: each value by itself, and all recorded ones in order.
+fn recorded_round(field: &mut Field, rng: &mut Rng, figures: &mut Figures) -> Result<(), String> {
+    let long = rng.pick(&[0, 1, 2, 3, 10, 60, 300]) + rng.below(3) as usize;
+    let described = garbage(long, rng);
+    for side in [Side::Start, Side::End] {
+        let (ground, around) = (&mut field.grounds[0], rng.any());
+        ground.fill(&described, around, side);
+        for value in [rng.below(long as u32 + 1), long.saturating_sub(1) as u32, long as u32, rng.any(), u32::MAX] {
+            let (answer, due) = (raw::recorded(ground.lend(long, side), value), recorded_due(&described, value));
+            if answer != due {
+                return Err(format!("whether value {value} is recorded in {described:?} is answered {answer:?} instead of {due:?}"));
+            }
+            figures.recorded[if due.0 == 6 { 2 } else { 1 - due.1 as usize }] += 1;
+            let from = value as usize;
+            let next = (from..long).find(|&later| recorded_due(&described, later as u32).1 == 1);
+            let found = raw::next_recorded(ground.lend(long, side), from);
+            if next != Some(found).filter(|&found| found < long) {
+                return Err(format!("the first recorded value from {from} on in {described:?} is answered {found} instead of {next:?}"));
+            }
+        }
+        if ground.lend(long, side) != described || !ground.kept_around(long, around, side) {
+            return Err("reading what is recorded changed something".to_string());
+        }
+    }
+    Ok(())
+}
+
 /// What docs/RULES.md says of a row, taken literally: where its entries lie in its table, if it is there.
 fn row_due(table: &[u32], asked: Asked) -> Option<Range<usize>> {
     let below = |number: u32, limit: usize| Some(number as usize).filter(|&number| number < limit);
@@ -248,7 +291,7 @@ fn row_due(table: &[u32], asked: Asked) -> Option<Range<usize>> {
 fn rows(right: usize, rng: &mut Rng) -> Vec<u32> {
     let mut cells = garbage(length(right, rng), rng);
     if rng.chance(3, 4) {
-        let room = raw::VARIABLES as u32;
+        let room = raw::PARAM_ROOM as u32;
         cells.iter_mut().step_by(raw::PARAM_ROW).for_each(|count| *count = rng.pick(&[0, 1, 2, room - 1, room, room + 1, u32::MAX]));
     }
     cells
@@ -334,6 +377,7 @@ pub fn run(rounds: u64, seed: u64, heap: bool) -> ExitCode {
         let held = round(&mut field, &mut rng, &mut figures)
             .and_then(|()| resolve_round(&mut field, &mut rng, &mut figures))
             .and_then(|()| row_round(&mut field, &mut rng, &mut figures))
+            .and_then(|()| recorded_round(&mut field, &mut rng, &mut figures))
             .and_then(|()| drawing.round(&mut rng));
         if let Err(what) = held {
             println!("round {number} of seed {seed}: {what}");
@@ -355,6 +399,8 @@ fn summary(figures: &Figures, drawing: &Drawing, heap: bool) {
     println!("{} rounds, {} calls; sessions that answered 0: {ran}, 1: {short}, 2: {unfit}", figures.rounds, figures.calls);
     println!("resolving answered 0: {ended}, 6: {past}, 14: {lost}");
     println!("rows with entries: {full}, empty: {empty}, not there: {none}");
+    let [marked, unmarked, absent] = figures.recorded;
+    println!("values recorded: {marked}, not recorded: {unmarked}, not there: {absent}");
     println!("{drawing}");
     println!("nothing outside what was lent was touched, and every answer is as it must be");
 }

@@ -1,15 +1,17 @@
 //! Lists that fill what docs/RULES.md limits: blocks, variables, destinations, made values, calls, and the rooms that follow from them.
 use crate::rng::Rng;
 use crate::{Call, MAX_CALLS, odd};
-use sangvireb::raw::{BLOCKS, DESTS, MADE, VARIABLES};
+use sangvireb::raw::{BLOCKS, DESTS, MADE, OWN_PARAMS, VARIABLES};
+use sangvireb::Type;
 
 pub fn list(rng: &mut Rng) -> Vec<Call> {
-    match rng.below(7) {
+    match rng.below(8) {
         0 => made_values(rng),
         1 => every_cell(rng),
         2 => full_lookup(rng),
         3 => alias_chain(rng),
-        4 => arguments(rng),
+        4 => arguments(rng, 0),
+        7 => arguments(rng, OWN_PARAMS),
         5 => waiting_results(rng),
         _ => calls(rng),
     }
@@ -19,21 +21,35 @@ pub fn list(rng: &mut Rng) -> Vec<Call> {
 pub fn fixed() -> Vec<Vec<Call>> {
     let mut rng = Rng::new(0);
     let one_too_many = vec![[12, 0, 0, 0]; MAX_CALLS + 1];
-    vec![arguments(&mut rng), full_lookup(&mut rng), waiting_results(&mut rng), followed_chain(16, 16), everything(), one_too_many]
+    let argued = [arguments(&mut rng, 0), arguments(&mut rng, OWN_PARAMS)];
+    argued.into_iter().chain([full_lookup(&mut rng), waiting_results(&mut rng), followed_chain(16, 16), everything(), one_too_many]).collect()
 }
 
 /// As many calls as a list can have, and as many values: made, and a parameter and a zero for each variable in each block, none of which has a way in.
-/// Once no more can be made, making one is still refused for other reasons first: an unknown block, an unknown type, a branch.
+/// All variables are marked, so every such parameter is recorded; marked again at the end, each is refused.
+/// Block 2 has as many parameters of the caller's as it can have, which count as made. Once no more can be made, making one is still refused for other
+/// reasons first: an unknown block, an unknown type, a branch; for a parameter of the caller's, a block that is full or sealed.
 fn everything() -> Vec<Call> {
     let mut calls = declared(BLOCKS, VARIABLES);
-    calls.extend((0..MADE + 1).map(|_| [3, 0, 2, 0]));
-    calls.extend([[3, BLOCKS as u32, 2, 0], [3, 0, 6, 0], [7, 1, 0, 0], [3, 1, 2, 0]]);
+    let (absent, no_type) = (BLOCKS as u32, Type::ALL.len() as u32);
+    calls.extend(marks());
+    calls.extend((0..OWN_PARAMS + 1).map(|_| [15, 2, 2, 0]));
+    calls.extend((0..MADE - OWN_PARAMS + 1).map(|_| [3, 0, 2, 0]));
+    calls.extend([[3, absent, 2, 0], [3, 0, no_type, 0], [7, 1, 0, 0], [3, 1, 2, 0]]);
+    calls.extend([[15, absent, 2, 0], [15, 2, no_type, 0], [15, 2, 2, 0], [15, 3, 2, 0]]);
     calls.push([12, 0, 0, 0]);
+    calls.extend([[15, 3, no_type, 0], [15, 2, 2, 0], [15, 3, 2, 0]]);
     for _ in 0..2 {
         calls.extend((0..BLOCKS as u32).flat_map(|b| (0..VARIABLES as u32).map(move |v| [6, v, b, 0])));
     }
+    calls.extend(marks());
     calls.resize(MAX_CALLS, [14, 0, 0, 0]);
     calls
+}
+
+/// A mark for every variable, and one for a variable more than there can be.
+fn marks() -> impl Iterator<Item = Call> {
+    (0..VARIABLES as u32 + 1).map(|v| [17, v, 0, 0])
 }
 
 /// One more block and variable than there can be: the last of each is refused.
@@ -46,9 +62,10 @@ fn declared(blocks: usize, vars: usize) -> Vec<Call> {
 /// More values than can be made, spread over the blocks, each given to a variable.
 fn made_values(rng: &mut Rng) -> Vec<Call> {
     let mut calls = declared(BLOCKS, VARIABLES);
+    calls.extend(marks().filter(|_| rng.chance(1, 3)));
     for i in 0..MADE as u32 + 3 {
         let b = rng.below(BLOCKS as u32);
-        calls.push([3, b, 2, 0]);
+        calls.push([if rng.chance(1, 4) { 15 } else { 3 }, b, 2, 0]);
         if rng.chance(1, 2) {
             calls.push([4, rng.below(VARIABLES as u32), i, b]);
         }
@@ -69,10 +86,14 @@ fn branches(rng: &mut Rng, blocks: u32, dests: u32) -> Vec<Call> {
     calls
 }
 
-/// Every variable is used in every block while all are unsealed, then all is sealed: a parameter and often a zero for each.
+/// Every variable is used in every block while all are unsealed, then all is sealed: a parameter and often a zero for each. In one block they stand behind
+/// as many parameters of the caller's as there can be.
 fn every_cell(rng: &mut Rng) -> Vec<Call> {
     let mut calls = declared(BLOCKS, VARIABLES);
     let islands = rng.chance(1, 2);
+    let full = rng.below(BLOCKS as u32);
+    calls.extend(marks().filter(|_| rng.chance(1, 3)));
+    calls.extend((0..OWN_PARAMS).map(|_| [15, full, 2, 0]));
     calls.extend((0..MADE as u32).map(|_| [3, 0, 2, 0]));
     if !islands {
         calls.extend(branches(rng, BLOCKS as u32, 3));
@@ -165,23 +186,27 @@ fn followed_chain(blocks: u32, vars: u32) -> Vec<Call> {
     calls
 }
 
-/// Two blocks enter a third eight times each with a value for every variable; the ninth destination is refused.
-fn arguments(rng: &mut Rng) -> Vec<Call> {
+/// Two blocks enter a third eight times each with a value for every variable and for so many parameters of the caller's, behind which one more argument
+/// is refused; so is the ninth destination, and one more parameter if there are as many as there can be.
+fn arguments(rng: &mut Rng, own: usize) -> Vec<Call> {
     let mut calls = declared(4, VARIABLES);
+    let (own, past) = (own as u32, u32::from(own == OWN_PARAMS));
+    calls.extend((0..own + past).map(|_| [15, 3, 2, 0]));
     for v in 0..VARIABLES as u32 {
         for b in 1..3 {
-            calls.extend([[3, b, 2, 0], [4, v, 2 * v + b - 1, b]]);
+            calls.extend([[3, b, 2, 0], [4, v, own + 2 * v + b - 1, b]]);
         }
     }
     for b in 1..3 {
         calls.push([7, b, 0, 0]);
         calls.extend((0..DESTS + 1).map(|_| [8, b, 3, 0]));
+        calls.extend((0..DESTS as u32).flat_map(|place| (0..own + past).map(move |i| [16, b, own + 2 * (i % VARIABLES as u32) + b - 1, place])));
         calls.push([9, 3, b, 0]);
     }
     let sealed_first = rng.chance(1, 2);
     calls.extend(sealed_first.then_some([12, 0, 0, 0]));
     calls.extend((0..VARIABLES as u32).map(|v| [6, v, 3, 0]));
-    calls.push([12, 0, 0, 0]);
+    calls.extend([[12, 0, 0, 0], [15, 3, 2, 0]]);
     calls
 }
 

@@ -39,6 +39,12 @@ pub struct Manner {
     pub many_types: bool,
     /// an edge may be declared long after its branch is there
     pub edges_wait: bool,
+    /// parameters of the caller's that a block gets when it is declared, at most
+    pub own_params: u32,
+    /// of a hundred, arguments of the caller's that are left out or otherwise wrong; in a proper list, those that come from another block
+    pub astray: u32,
+    /// of a hundred, variables that are marked for stack maps when they are declared; further marks come at any time, unless there are none at all
+    pub marked: u32,
 }
 
 impl Manner {
@@ -52,7 +58,8 @@ impl Manner {
     pub fn proper(rng: &mut Rng) -> Manner {
         let sealing = rng.pick(&[Sealing::WhenComplete, Sealing::AtEnd]);
         let bad = rng.pick(&[0, 0, 0, 10]);
-        Manner { sealing, bad, proper: true, ..Manner::sized(rng) }
+        let astray = rng.pick(&[0, 0, 0, 20]);
+        Manner { sealing, bad, astray, proper: true, ..Manner::sized(rng) }
     }
 
     /// Most lists are short, some have hundreds of calls, a few come near the limits.
@@ -77,6 +84,9 @@ impl Manner {
             by_number: rng.chance(1, 2),
             many_types: rng.chance(1, 3),
             edges_wait: rng.chance(1, 3),
+            own_params: rng.pick(&[0, 0, 1, 1, 2, 4]),
+            astray: rng.pick(&[0, 0, 10, 40]),
+            marked: rng.pick(&[0, 20, 70]),
         }
     }
 }

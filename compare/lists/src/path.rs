@@ -1,7 +1,7 @@
 //! A finished session on a path, as docs/RULES.md says under "On a path", and the suppositions of demand 3.
 //! crates/meaning/specs has both in the words of the proofs: Path.antt and Suppositions.antt.
 use crate::finished::Finished;
-use sangvireb::raw;
+use sangvireb::{Type, raw};
 
 /// What a block itself does, in list order.
 #[derive(Clone, Copy)]
@@ -25,26 +25,36 @@ pub fn acts(session: &Finished) -> Vec<Vec<Act>> {
     acts
 }
 
-pub const SUPPOSITIONS: [&str; 4] = [
+pub const SUPPOSITIONS: [&str; 5] = [
     "every block is sealed",
     "no branch goes into block 0",
     "every branch is declared to each of its destinations",
-    "each definition takes a value made earlier in its own block, or answered to an earlier use there",
+    "each definition takes a value made earlier in its own block, or answered to an earlier use there, or a caller's parameter of that block",
+    "each destination was given one argument for each caller's parameter of its block, each of them a value that was made in the branching block, \
+     or answered to a use there, or a caller's parameter of that block",
 ];
 
-/// Which of the four suppositions the session meets.
-pub fn supposed(session: &Finished) -> [bool; 4] {
+/// Which of the five suppositions the session meets.
+pub fn supposed(session: &Finished) -> [bool; 5] {
     let mut blocks = 0..session.blocks();
+    let acts = acts(session);
     [
         blocks.clone().all(|b| session.is_sealed(b)),
         blocks.clone().all(|p| !session.dests(p).contains(&0)),
-        blocks.all(|p| session.dests(p).iter().all(|&b| session.preds(b).contains(&p))),
-        acts(session).iter().all(|acts| own_values(acts)),
+        blocks.clone().all(|p| session.dests(p).iter().all(|&b| session.preds(b).contains(&p))),
+        blocks.clone().all(|b| own_values(session.own_params(b), &acts[b as usize])),
+        own_counts(session) && blocks.all(|p| own_sources(session, p, &acts[p as usize])),
     ]
 }
 
-fn own_values(acts: &[Act]) -> bool {
-    let mut had = Vec::new();
+/// The same with arguments of the caller's that come from anywhere: that suffices for the conclusion.
+pub fn counted(session: &Finished) -> bool {
+    let [sealed, none_enters_0, declared, own_values, _] = supposed(session);
+    sealed && none_enters_0 && declared && own_values && own_counts(session)
+}
+
+fn own_values(callers: &[u32], acts: &[Act]) -> bool {
+    let mut had = callers.to_vec();
     acts.iter().all(|act| match *act {
         Act::Makes { value } | Act::Uses { answer: value, .. } => {
             had.push(value);
@@ -52,6 +62,29 @@ fn own_values(acts: &[Act]) -> bool {
         }
         Act::Gives { value, .. } => had.contains(&value),
     })
+}
+
+/// The values that accepted calls of kind 16 gave, each with the branch and the place of its destination.
+fn given(session: &Finished) -> Vec<(u32, u32, u32)> {
+    session.accepted().filter(|(call, _)| call[0] == 16).map(|(&[_, branch, value, place], _)| (branch, place, value)).collect()
+}
+
+/// Each destination was given as many arguments as its block has parameters of the caller's.
+fn own_counts(session: &Finished) -> bool {
+    let given = given(session);
+    let count = |p, i| given.iter().filter(|&&(branch, place, _)| (branch, place) == (p, i)).count();
+    (0..session.blocks()).all(|p| session.dests(p).iter().zip(0..).all(|(&to, i)| count(p, i) == session.own_params(to).len()))
+}
+
+/// What branch p's destinations were given are values of block p.
+fn own_sources(session: &Finished, p: u32, acts: &[Act]) -> bool {
+    let had = |value: u32| {
+        acts.iter().any(|act| match *act {
+            Act::Makes { value: own } | Act::Uses { answer: own, .. } => own == value,
+            Act::Gives { .. } => false,
+        })
+    };
+    given(session).into_iter().all(|(branch, _, value)| branch != p || had(value) || session.own_params(p).contains(&value))
 }
 
 /// The first destination whose arguments are not one for each parameter: branch and place.
@@ -74,7 +107,7 @@ pub struct Met {
 }
 
 /// The bits of each type's unset value, as docs/RULES.md has them. Zeros hold what the library tells; that the two agree is part of what is walked.
-const UNSET: [u64; 6] = [0, 0, 0, 0, 0x7fc0_0000, 0x7ff8_0000_0000_0000];
+const UNSET: [u64; Type::ALL.len()] = [0, 0, 0, 0, 0x7fc0_0000, 0x7ff8_0000_0000_0000];
 
 /// What a value holds that the session does not determine.
 pub enum Content {
@@ -204,7 +237,7 @@ mod tests {
         let mut lent = Lent::new(1);
         assert_eq!(lent.run(&lists[0], &mut Rng::new(1)), 0);
         let session = Finished::of(&lists[0], &lent);
-        assert_eq!(supposed(&session), [true; 4]);
+        assert_eq!(supposed(&session), [true; SUPPOSITIONS.len()]);
         let acts = acts(&session);
         let start = || Short { left: 3, contents: 0, wrong: 0 };
         let (mut at_once, mut in_turn) = (start(), start());

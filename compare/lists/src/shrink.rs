@@ -81,7 +81,7 @@ impl<F: FnMut(&[Call]) -> bool> Shrinking<F> {
     /// A call that makes a value, where all later values are one lower without it.
     fn leave_out_values(&mut self) {
         for i in (0..self.best.len()).rev() {
-            if i < self.best.len() && matches!(self.best[i][0], 3 | 6) {
+            if i < self.best.len() && matches!(self.best[i][0], 3 | 6 | 15) {
                 for value in self.numbers(Field::Value) {
                     let without = without_calls(&self.best, i, 1);
                     if self.take(lowered(&without, value)) {
@@ -111,8 +111,10 @@ impl<F: FnMut(&[Call]) -> bool> Shrinking<F> {
 /// Values from `from` on, one lower.
 fn lowered(calls: &[Call], from: u32) -> Vec<Call> {
     let mut lower = calls.to_vec();
-    for call in lower.iter_mut().filter(|call| call[0] == 4 && call[2] >= from && call[2] > 0) {
-        call[2] -= 1;
+    for call in &mut lower {
+        for (field, number) in fields(call[0]).into_iter().zip(&mut call[1..]) {
+            *number -= u32::from(field == Field::Value && *number >= from && *number > 0);
+        }
     }
     lower
 }

@@ -17,13 +17,17 @@ const fn part(name: &'static str, each: fn(Visit) -> bool) -> Part {
     Part { name, long: false, each }
 }
 
-pub const PARTS: [Part; 7] = [
+pub const PARTS: [Part; 11] = [
     part("one", one),
     part("two-uses", two_uses),
     part("two-definitions", two_definitions),
     part("three-sealing", three_sealing),
     part("three-branching", three_branching),
     part("three-late", three_late),
+    part("carried", |visit| carried(visit, giving_branches)),
+    part("carried-short", |visit| carried(visit, branches)),
+    part("carried-edge", carried_edge),
+    part("marked", marked),
     Part { name: "three-long", long: true, each: three_long },
 ];
 
@@ -205,6 +209,54 @@ fn three_late(visit: Visit) -> bool {
             let mut bag = [branches(graph), definitions(&[defined]), once(used)].concat();
             let end = [vec![[12, 0, 0, 0]], uses(&[0, 1, 2])].concat();
             orders(&mut bag, &mut beginning(3, &[defined]), &end, visit)
+        })
+    })
+}
+
+/// As `branches`, where each destination is given the value that was made in the branching block, which has that block's number.
+fn giving_branches(graph: &Graph) -> Bag {
+    let mut bag = branches(graph);
+    for (calls, _) in &mut bag {
+        let named = calls.iter().filter(|call| call[0] == 8).count();
+        let (b, declared) = (calls[0][1], calls.split_off(1 + named));
+        calls.extend((0..named as u32).map(|place| [16, b, b, place]));
+        calls.extend(declared);
+    }
+    bag
+}
+
+/// A parameter of the caller's on one of two blocks, a definition and a use; branches that come after the parameter have an argument for it, or none.
+fn carried(visit: Visit, branches: fn(&Graph) -> Bag) -> bool {
+    graphs(2, &choices(2, false)).iter().all(|graph| {
+        (0..8).all(|place| {
+            let [own, defined, used] = [place & 1, place >> 1 & 1, place >> 2];
+            let mut bag = [branches(graph), seals(2), once(used)].concat();
+            bag.extend([(vec![[15, own, TYPE, 0]], 1), (vec![[4, 0, defined, defined]], 1)]);
+            orders(&mut bag, &mut beginning(2, &[0, 1]), &uses(&[0, 1]), visit)
+        })
+    })
+}
+
+/// One edge, to the other block or back: made, declared and removed; two parameters of the caller's, of different types, two arguments, a use and a seal.
+fn carried_edge(visit: Visit) -> bool {
+    [0, 1].into_iter().all(|to| {
+        let steps: [&[Call]; 7] =
+            [&[[7, 0, 0, 0], [8, 0, to, 0]], &[[9, to, 0, 0]], &[[10, to, 0, 0]], &[[15, to, TYPE, 0]], &[[15, to, 0, 0]], &[[6, 0, to, 0]], &[[11, to, 0, 0]]];
+        let mut bag: Bag = steps.into_iter().map(|step| (step.to_vec(), 1)).collect();
+        bag.push((vec![[16, 0, 0, 0]], 2));
+        let end = [vec![[12, 0, 0, 0]], uses(&[1, 0])].concat();
+        orders(&mut bag, &mut beginning(2, &[0]), &end, visit)
+    })
+}
+
+/// A mark, a definition and a use beside branches and seals.
+fn marked(visit: Visit) -> bool {
+    graphs(2, &choices(2, false)).iter().all(|graph| {
+        (0..4).all(|place| {
+            let (defined, used) = (place & 1, place >> 1);
+            let mut bag = [branches(graph), seals(2), definitions(&[defined]), once(used)].concat();
+            bag.push((vec![[17, 0, 0, 0]], 1));
+            orders(&mut bag, &mut beginning(2, &[defined]), &uses(&[0, 1]), visit)
         })
     })
 }

@@ -10,6 +10,7 @@ use crate::rng::Rng;
 use crate::shapes::{Graph, SHAPES, Shape};
 use crate::shrink::shrink;
 use crate::text;
+use sangvireb::Sort;
 use std::process::ExitCode;
 
 const PATHS: u32 = 8;
@@ -22,7 +23,12 @@ struct Figures {
     paths: u64,
     blocks: u64,
     /// uses met, by the sort of the value to which the answer resolves
-    uses: [u64; 3],
+    uses: [u64; Sort::ALL.len()],
+    /// lists with parameters of the caller's, and arguments given for them
+    carrying: u64,
+    given: u64,
+    /// lists that give arguments of other blocks than the branching one
+    foreign: u64,
     aliases: u64,
     /// uses met of a variable that had received nothing, and those of them where it is a float
     unset: [u64; 2],
@@ -96,12 +102,15 @@ fn try_list(calls: &[Call], lent: &mut Lent, rng: &mut Rng, figures: &mut Figure
     let code = lent.run(calls, rng);
     assert_eq!(code, 0, "the list is run");
     let session = Finished::of(calls, lent);
-    if path::supposed(&session) != [true; 4] {
+    if !path::counted(&session) {
         figures.unfit += 1;
         return None;
     }
     figures.lists += 1;
     figures.calls += calls.len() as u64;
+    figures.foreign += u64::from(path::supposed(&session).contains(&false));
+    figures.carrying += u64::from((0..session.blocks()).any(|b| !session.own_params(b).is_empty()));
+    figures.given += session.accepted().filter(|(call, _)| call[0] == 16).count() as u64;
     breach(&session, rng, figures)
 }
 
@@ -133,10 +142,12 @@ pub fn run(lists: u64, seed: u64) -> ExitCode {
 }
 
 fn summary(figures: &Figures) {
-    let [made, params, zeros] = figures.uses;
-    println!("{} lists meet the four suppositions; {} more did not and were not walked", figures.lists, figures.unfit);
-    println!("{} paths through {} blocks, {} uses met on them", figures.paths, figures.blocks, made + params + zeros);
-    println!("answers resolve to a made value {made} times, a parameter {params}, a zero {zeros}; {} were aliases", figures.aliases);
+    let resolved: Vec<String> = Sort::ALL.iter().zip(figures.uses).map(|(sort, uses)| format!("{sort} {uses}")).collect();
+    let supposed = figures.lists - figures.foreign;
+    println!("{supposed} lists meet the suppositions, {} all but where their arguments come from; {} others were not walked", figures.foreign, figures.unfit);
+    println!("{} of those walked have parameters of the caller's, with {} arguments given for them", figures.carrying, figures.given);
+    println!("{} paths through {} blocks, {} uses met on them", figures.paths, figures.blocks, figures.uses.iter().sum::<u64>());
+    println!("sorts to which answers resolve: {}; {} were aliases", resolved.join(", "), figures.aliases);
     let [unset, floats] = figures.unset;
     println!("{unset} times the variable had received nothing, {floats} of them a float, whose bits are a quiet NaN's");
     println!("no breach");
@@ -147,12 +158,15 @@ mod tests {
     use super::*;
     use sangvireb::raw::*;
 
-    /// Puts another value for the first argument that there is.
-    fn spoil(lent: &mut Lent) -> bool {
+    /// Puts another value for the first argument that the builder appended, if there is one: behind the caller's.
+    fn spoil(calls: &[Call], lent: &mut Lent) -> bool {
+        let session = Finished::of(calls, lent);
+        let edges = (0..session.blocks()).flat_map(|b| session.dests(b).iter().enumerate().map(move |(i, &to)| (b as usize, i, to)));
+        let first = |(b, i, to)| (ARG_ROWS + PARAM_ROW * (DESTS * b + i), session.own_params(to).len());
+        let found = edges.map(first).find(|&(row, own)| lent.form()[row] as usize > own);
+        let Some((row, own)) = found else { return false };
         let form = &mut lent.tables[3];
-        let values = form[VALUE_COUNT];
-        let Some(row) = (0..BLOCKS * DESTS).map(|i| ARG_ROWS + PARAM_ROW * i).find(|&row| form[row] > 0) else { return false };
-        form[row + 1] = (form[row + 1] + 1) % values;
+        form[row + 1 + own] = (form[row + 1 + own] + 1) % form[VALUE_COUNT];
         true
     }
 
@@ -164,7 +178,7 @@ mod tests {
             let mut rng = Rng::nth(9, number);
             let calls = proper_list(&mut lent, &mut rng);
             lent.run(&calls, &mut rng);
-            if spoil(&mut lent) {
+            if spoil(&calls, &mut lent) {
                 spoiled += 1;
                 found += u32::from(breach(&Finished::of(&calls, &lent), &mut rng, &mut Figures::default()).is_some());
             }

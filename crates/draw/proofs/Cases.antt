@@ -7,7 +7,7 @@ use mathlib.Core.List.{List, [], _∷_, _++_}
 use lib.ListN.{getD}
 use Rattle.definition.specs.Session.{session}
 use Rattle.definition.specs.Starred.{cases}
-use Rattle.draw.specs.Text.{bytes, digits, decimal, named, each, values, block-line, edge-line, text}
+use Rattle.lines.specs.Text.{bytes, digits, decimal, named, each, values, block-line, edge-line, text}
 use Rattle.draw.specs.Seen.{state-picture}
 
 -- a line and its end

@@ -10,10 +10,12 @@ use lib.ListN.{length, drop}
 use lib.Seq.{sets, sets-eq}
 use Rattle.entity.specs.Limits.{limits, graph-need, form-need}
 use Rattle.definition.specs.Base.{_<?_}
-use Rattle.draw.specs.Text.{text}
-use Rattle.draw.specs.Seen.{seen, drawable}
+use Rattle.lines.specs.Text.{text}
+use Rattle.drawable.specs.Fits.{drawable}
+use Rattle.draw.specs.Seen.{seen}
 use Rattle.draw.specs.Draws.{code-of, Draws}
-use Rattle.draw.specs.Wrote.{Wrote, Long}
+use Rattle.lines.specs.Wrote.{Wrote}
+use Rattle.drawable.specs.Drawable.{Long}
 
 module _ (graph form buffer : List ℕ) where
   abbrev drawn : List ℕ

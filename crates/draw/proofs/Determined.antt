@@ -10,7 +10,7 @@ use lib.ListN.{length, take, drop}
 use lib.Seq.{take-append-seam, drop-append-seam}
 use Rattle.definition.specs.Base.{_=?_, if_then_else_}
 use Rattle.meaning.proofs.Maps.{eqb-diff, same?}
-use Rattle.draw.specs.Text.{text}
+use Rattle.lines.specs.Text.{text}
 use Rattle.draw.specs.Seen.{seen}
 use Rattle.draw.specs.Draws.{length-with, buffer-with, Draws}
 use Rattle.draw.proofs.Codes.{room-by-0}

@@ -1,5 +1,3 @@
-pub mod Pieces
-pub mod Checks
 pub mod Rows
 pub mod Codes
 pub mod Determined

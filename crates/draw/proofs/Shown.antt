@@ -27,11 +27,12 @@ use Rattle.layout.specs.Rows.{Row, entries}
 use Rattle.layout.proofs.Cells.{holds-more, render-held}
 use Rattle.layout.proofs.Grids.{pair-at, row-among}
 use Rattle.layout.proofs.Rows.{row-count, row-entries}
-use Rattle.draw.specs.Text.{Picture, each, block-line, edge-line, edge-lines, text}
-use Rattle.draw.specs.Seen.{mark-table, dest-table, param-table, arg-table, params-at, dests-at, args-at, blocks, values, branches, seen, drawable, state-picture}
+use Rattle.lines.specs.Text.{Picture, each, block-line, edge-line, edge-lines, text}
+use Rattle.drawable.specs.Fits.{mark-table, dest-table, param-table, arg-table, params-at, dests-at, args-at, blocks, values, branches, drawable}
+use Rattle.draw.specs.Seen.{seen, state-picture}
 use Rattle.draw.specs.Draws.{length-with, buffer-with, Draws}
-use Rattle.draw.specs.Wrote.{Long, Row-fits, Drawable}
-use Rattle.draw.proofs.Checks.{drawable-decided}
+use Rattle.drawable.specs.Drawable.{Long, Row-fits, Drawable}
+use Rattle.drawable.proofs.Checks.{drawable-decided}
 use Rattle.draw.proofs.Codes.{code-0, code-15}
 
 -- ---- pictures that show the same have the same text

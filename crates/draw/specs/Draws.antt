@@ -7,8 +7,9 @@ use mathlib.Core.List.{List, _++_}
 use lib.ListN.{length, drop}
 use Rattle.entity.specs.Limits.{limits, graph-need, form-need}
 use Rattle.definition.specs.Base.{_=?_, _<?_, if_then_else_}
-use Rattle.draw.specs.Text.{text}
-use Rattle.draw.specs.Seen.{seen, drawable}
+use Rattle.lines.specs.Text.{text}
+use Rattle.drawable.specs.Fits.{drawable}
+use Rattle.draw.specs.Seen.{seen}
 
 module _ (graph form buffer : List ℕ) where
   -- the code: 1 for a table shorter than its need, 16 for tables that can't be drawn, 15 for a buffer shorter than the text

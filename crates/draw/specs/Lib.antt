@@ -1,4 +1,2 @@
-pub mod Text
 pub mod Seen
 pub mod Draws
-pub mod Wrote

@@ -1,8 +1,5 @@
 // A finished session's tables as a picture: Graphviz's DOT, as text in a lent buffer. The tables may hold anything: what can't be drawn gets a code.
-mod buffer;
-mod cells;
-mod fits;
-mod lines;
+mod text;
 
 ghost use Rattle.draw.specs.Draws.{Draws};
 
@@ -37,14 +34,14 @@ pub fn draw(graph: &[u32], form: &[u32], buffer: &mut [u8]) -> Drawn
     if form.len() < entity::FORM_NEED {
         return SHORT;
     }
-    if !fits::drawable(graph, form) {
+    if !drawable::drawable(graph, form) {
         return NOT_DRAWABLE;
     }
     let mut nowhere = [0u8; 0];
-    let length = lines::put_text(&mut nowhere, graph, form);
+    let length = text::put_text(&mut nowhere, graph, form);
     if buffer.len() < length {
         return NO_ROOM;
     }
-    lines::put_text(buffer, graph, form);
+    text::put_text(buffer, graph, form);
     Drawn { code: 0, length }
 }

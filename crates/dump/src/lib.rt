@@ -1,17 +1,16 @@
-// What a session leaves, line by line: in letters, for programs, or in words, for people. A new table takes a function here and a line in both of texts.rt.
+// What a session leaves, line by line: in letters, for programs, or in words, for people. A new table takes a function here and two texts in `phrases`.
 use crate::cells::cell;
 use crate::cells::entry;
-use crate::out::byte;
-use crate::say::Numbers;
-use crate::say::one;
-use crate::say::two;
-use crate::texts::line;
 use form::ZERO;
+use phrases::out::byte;
+use phrases::say;
+use phrases::say::Numbers;
+use phrases::say::one;
+use phrases::say::two;
+use phrases::texts;
+use phrases::texts::line;
 
 mod cells;
-pub mod out;
-mod say;
-mod texts;
 
 // The entries of the row that starts at `at`, and the line's end.
 fn row(out: &mut [u8], n: usize, in_words: bool, t: &[u32], at: usize, each: usize) -> usize {
@@ -131,6 +130,14 @@ fn values(out: &mut [u8], n: usize, in_words: bool, form: &[u32], which: usize) 
     m
 }
 
+// In words a text stands before the arguments, if there are any.
+fn with(out: &mut [u8], n: usize, in_words: bool, count: usize) -> usize {
+    if in_words && 0 < count {
+        return texts::words(out, n, texts::WITH, one(count));
+    }
+    n
+}
+
 // Destination j of block i, with its arguments.
 fn destination(
     out: &mut [u8],
@@ -144,11 +151,8 @@ fn destination(
     let x = cells::dest(graph, i, j);
     let at = cells::arg_row(i, j);
     let m = line(out, n, in_words, texts::DEST, x);
-    if in_words && 0 < cell(form, at, 0) {
-        let k = texts::words(out, m, texts::WITH, x);
-        return row(out, k, in_words, form, at, texts::VALUE_NUMBER);
-    }
-    row(out, m, in_words, form, at, texts::VALUE_NUMBER)
+    let k = with(out, m, in_words, cell(form, at, 0));
+    row(out, k, in_words, form, at, texts::VALUE_NUMBER)
 }
 
 // The first k destinations of block i.
@@ -170,7 +174,14 @@ fn destinations(
     m
 }
 
-// In words a branch is told by its destinations, if it has any.
+// In words a branch of k destinations is told by them, if it has any.
+fn branch_itself(out: &mut [u8], n: usize, in_words: bool, i: usize, k: usize) -> usize {
+    if in_words && 0 < k {
+        return n;
+    }
+    line(out, n, in_words, texts::BRANCH, two(i, k))
+}
+
 fn branch(
     out: &mut [u8],
     n: usize,
@@ -183,10 +194,7 @@ fn branch(
         return n;
     }
     let k = cell(graph, cells::dest_row(i), 0);
-    if in_words && 0 < k {
-        return destinations(out, n, in_words, graph, form, i, k);
-    }
-    let m = line(out, n, in_words, texts::BRANCH, two(i, k));
+    let m = branch_itself(out, n, in_words, i, k);
     destinations(out, m, in_words, graph, form, i, k)
 }
 
@@ -219,10 +227,12 @@ fn definitions(
 
 fn sealed(out: &mut [u8], n: usize, in_words: bool, graph: &[u32], i: usize) -> usize {
     let x = cell(graph, layout::SEALED, i);
-    if x == 0 {
-        return line(out, n, in_words, texts::UNSEALED, two(i, x));
-    }
-    line(out, n, in_words, texts::SEALED, two(i, x))
+    let which = if x == 0 {
+        texts::UNSEALED
+    } else {
+        texts::SEALED
+    };
+    line(out, n, in_words, which, two(i, x))
 }
 
 // Block i's predecessors, its pending variables, and whether it is sealed.

@@ -13,33 +13,35 @@ pub fn number(x: u64) {
     io::print_decimal(STDERR_FILENO, x);
 }
 
+// A number after a text.
+pub fn count(s: &[u8], x: u64) {
+    say(s);
+    number(x);
+}
+
 // A byte as it is, if it can be seen, else its number.
 fn shown(b: u8) {
     if b < 33 || 126 < b {
-        say(b"byte ");
-        number(b as u64);
+        count(b"byte ", b as u64);
         return;
     }
     say(&[b'`', b, b'`']);
 }
 
 fn place(l: Line) {
-    say(b": line ");
-    number(l.place);
+    count(b": line ", l.place);
 }
 
 // What is wrong with the line's latest byte.
 fn fault(l: Line) {
-    say(b", column ");
-    number(l.column);
+    count(b", column ", l.column);
     say(b": ");
     if l.fault == line::STRANGE {
         shown(l.byte);
         say(b" is neither a digit nor a blank\n");
         return;
     }
-    say(b"the number is not below ");
-    number(line::ABOVE);
+    count(b"the number is not below ", line::ABOVE);
     say(b"\n");
 }
 
@@ -64,12 +66,9 @@ fn before(place: u64) -> u64 {
 
 fn missing(r: Reading) {
     let l = r.line;
-    say(b": the input ends after line ");
-    number(before(l.place));
-    say(b", ");
-    number(r.left as u64);
-    say(b" of ");
-    number(r.want as u64);
+    count(b": the input ends after line ", before(l.place));
+    count(b", ", r.left as u64);
+    count(b" of ", r.want as u64);
     say(b" calls are missing\n");
 }
 

@@ -3,11 +3,11 @@ ghost use mathlib.Core.Path.{_≡_};
 ghost use Prim.Native.Nat.{_*_};
 ghost use lib.ListN.{length};
 ghost use Rattle.entity.specs.Limits.{limits};
-use dump::out::LOST;
 use input::list;
 use input::list::Reading;
 use input::tell;
 use libc::STDIN_FILENO;
+use phrases::out::LOST;
 
 mod options;
 mod run;
@@ -156,8 +156,8 @@ fn titled(name: &[u8], out: &mut [u8], n: usize, shown: u32) -> usize {
     if shown != WORDS {
         return n;
     }
-    let m = dump::out::text(out, n, name);
-    dump::out::text(out, m, b"\n")
+    let m = phrases::out::text(out, n, name);
+    phrases::out::text(out, m, b"\n")
 }
 
 fn file(who: &[u8], name: &[u8], out: &mut [u8], calls: &mut [u32], n: usize, shown: u32) -> usize {
@@ -206,7 +206,7 @@ fn done(who: &[u8], help: &[u8], out: &mut [u8], calls: &mut [u32], o: options::
         return 0;
     }
     if o.help {
-        return dump::out::text(out, 0, help);
+        return phrases::out::text(out, 0, help);
     }
     if o.files == 0 {
         return lists(who, STDIN_FILENO, b"standard input", out, calls, 0, o.shown);
@@ -219,5 +219,5 @@ pub fn start(who: &[u8], help: &[u8], shown: u32) {
     let mut out = io::large_buffer();
     let mut calls = call_cells();
     let n = done(who, help, &mut out, &mut calls, options::read(who, shown));
-    dump::out::flush(&out, n);
+    phrases::out::flush(&out, n);
 }

@@ -32,6 +32,14 @@ fn unknown(who: &[u8], s: &[u8]) {
     tell::say(b": there is no such option; --help tells which there are\n");
 }
 
+fn asks_words(s: &[u8]) -> bool {
+    check::same(s, b"--words")
+}
+
+fn asks_help(s: &[u8]) -> bool {
+    check::same(s, b"--help")
+}
+
 // A picture has no words.
 fn with(who: &[u8], o: Options, s: &[u8]) -> Options {
     let mut p = o;
@@ -39,11 +47,11 @@ fn with(who: &[u8], o: Options, s: &[u8]) -> Options {
         p.files = more(o.files);
         return p;
     }
-    if o.shown != PICTURE && check::same(s, b"--words") {
+    if o.shown != PICTURE && asks_words(s) {
         p.shown = WORDS;
         return p;
     }
-    if check::same(s, b"--help") {
+    if asks_help(s) {
         p.help = true;
         return p;
     }

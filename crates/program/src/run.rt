@@ -1,7 +1,7 @@
 // Runs a list over tables of its own, and shows what the session leaves.
 ghost use mathlib.Core.Path.{_≡_};
+ghost use Prim.Native.Nat.{suc, _*_, _<_, _≤_};
 ghost use lib.ListN.{length};
-ghost use Prim.Native.Nat.{suc, _*_};
 ghost use Rattle.entity.specs.Limits.{limits, param-room, graph-need, form-need, work-need};
 use crate::PICTURE;
 use crate::WORDS;
@@ -46,6 +46,15 @@ fn picture_bytes() -> [u8; PICTURE_BYTES]
     [0u8; PICTURE_BYTES]
 }
 
+// The first k numbers of a column of calls: of their kinds, their xs, their ys or their zs.
+fn column<'a>(calls: &'a [u32], which: usize, k: usize) -> &'a [u32]
+    requires { ⌜ (which < 4) × (k ≤ limits .calls) × (limits .calls * 4 ≤ length (now calls)) ⌝ }
+{
+    let start = which * CALLS;
+    let end = start + k;
+    &calls[start..end]
+}
+
 // Runs the session of k calls. Was it run?
 fn ran(
     calls: &[u32],
@@ -62,25 +71,24 @@ fn ran(
     if calls.len() < CALLS * 4 {
         return false;
     }
-    let kind: usize = 0;
-    let x = CALLS;
-    let y = CALLS * 2;
-    let z = CALLS * 3;
-    let xe = x + k;
-    let ye = y + k;
-    let ze = z + k;
-    session::session(
-        &calls[kind..k],
-        &calls[x..xe],
-        &calls[y..ye],
-        &calls[z..ze],
-        codes,
-        numbers,
-        graph,
-        form,
-        work,
-    )
-        == 0
+    let kinds = column(calls, 0, k);
+    let xs = column(calls, 1, k);
+    let ys = column(calls, 2, k);
+    let zs = column(calls, 3, k);
+    session::session(kinds, xs, ys, zs, codes, numbers, graph, form, work) == 0
+}
+
+fn more_than_taken(calls: u32) {
+    tell::count(b" has ", calls as u64);
+    tell::count(b" calls, a session takes ", entity::CALLS as u64);
+    tell::say(b": there is no picture\n");
+}
+
+fn too_long(who: &[u8], name: &[u8], r: Reading) {
+    let l = r.line;
+    tell::begin(who, name);
+    tell::count(b": the list that ends before line ", l.place);
+    more_than_taken(r.want);
 }
 
 // A list is refused whole: it has more calls than a session takes.
@@ -88,16 +96,14 @@ fn refused(who: &[u8], name: &[u8], out: &mut [u8], n: usize, shown: u32, r: Rea
     if shown != PICTURE {
         return dump::refused(out, n, shown == WORDS);
     }
-    let l = r.line;
-    tell::begin(who, name);
-    tell::say(b": the list that ends before line ");
-    tell::number(l.place);
-    tell::say(b" has ");
-    tell::number(r.want as u64);
-    tell::say(b" calls, a session takes ");
-    tell::number(entity::CALLS as u64);
-    tell::say(b": there is no picture\n");
+    too_long(who, name, r);
     n
+}
+
+fn not_drawn(who: &[u8], name: &[u8], code: u32) {
+    tell::begin(who, name);
+    tell::count(b": a picture is refused with code ", code as u64);
+    tell::say(b"\n");
 }
 
 // Tables that a session left can be drawn, and the buffer is long enough; should it not be, that is told.
@@ -112,14 +118,11 @@ fn picture(
     let mut text = picture_bytes();
     let drawn = draw::draw(graph, form, &mut text);
     if drawn.code != 0 {
-        tell::begin(who, name);
-        tell::say(b": a picture is refused with code ");
-        tell::number(drawn.code as u64);
-        tell::say(b"\n");
+        not_drawn(who, name, drawn.code);
         return n;
     }
     let k = drawn.length;
-    dump::out::text(out, n, &text[..k])
+    phrases::out::text(out, n, &text[..k])
 }
 
 // Shows what a session of k calls left.
@@ -152,41 +155,7 @@ fn show(
     )
 }
 
-// Runs the list that was read and shows what the session leaves.
-fn run(
-    who: &[u8],
-    name: &[u8],
-    out: &mut [u8],
-    n: usize,
-    shown: u32,
-    calls: &[u32],
-    r: Reading,
-    codes: &mut [u32],
-    numbers: &mut [u32],
-    graph: &mut [u32],
-    form: &mut [u32],
-    work: &mut [u32],
-) -> usize {
-    let k = r.want as usize;
-    if ran(calls, k, codes, numbers, graph, form, work) {
-        return show(
-            who,
-            name,
-            out,
-            n,
-            shown,
-            k,
-            calls,
-            codes,
-            numbers,
-            graph,
-            form,
-        );
-    }
-    refused(who, name, out, n, shown, r)
-}
-
-// A list is whole: lends cells for it. A session starts empty whatever they hold.
+// A list is whole: runs it over cells of its own and shows what the session leaves. A session starts empty whatever they hold.
 pub fn answer(
     who: &[u8],
     name: &[u8],
@@ -201,18 +170,29 @@ pub fn answer(
     let mut graph = graph_cells();
     let mut form = form_cells();
     let mut work = work_cells();
-    run(
-        who,
-        name,
-        out,
-        n,
-        shown,
+    let k = r.want as usize;
+    if ran(
         calls,
-        r,
+        k,
         &mut codes,
         &mut numbers,
         &mut graph,
         &mut form,
         &mut work,
-    )
+    ) {
+        return show(
+            who,
+            name,
+            out,
+            n,
+            shown,
+            k,
+            calls,
+            &codes,
+            &numbers,
+            &graph,
+            &form,
+        );
+    }
+    refused(who, name, out, n, shown, r)
 }

@@ -2,7 +2,7 @@
 //! all ways to it are known.
 use crate::form::{Body, End, Form, Op, Way};
 use crate::lexer::{Fault, Words};
-use crate::number::{Number, Unary, LEVELS};
+use crate::number::{Binary, Number, Unary, LEVELS};
 use sangvireb::{Block, Refused, SSABuilder, Session, Type, Value, Variable};
 use std::collections::HashMap;
 
@@ -103,6 +103,7 @@ impl Compiler<'_> {
         match self.words.take() {
             "if" => return self.fork(),
             "while" => return self.cycle(),
+            "repeat" => return self.count(),
             "return" => {
                 let (result, _) = self.expression(0)?;
                 self.draft().end = Some(End::Return(result));
@@ -154,6 +155,34 @@ impl Compiler<'_> {
         self.ssa.seal_block(after)?;
         let back = self.arm(body)?;
         self.join(back, None, head)?;
+        Ok(Some(after))
+    }
+
+    /// `repeat NAME to EXPRESSION { .. }`: NAME is 0, then 1 and so on, as long as that is less. The head carries the index as a parameter of its own,
+    /// which no assignment in the body disturbs.
+    fn count(&mut self) -> Result<Onward, Fault> {
+        let name = self.words.take_name()?;
+        self.words.want("to")?;
+        let (first, _) = self.step(Type::I64, Op::Constant(Number::Int(0)))?;
+        let head = self.new_block()?;
+        let index = self.ssa.append_block_param(head, Type::I64)?;
+        self.end_with(End::Jump, &[(head, &[first])])?;
+        self.here = head;
+        self.assign(name, (index, Type::I64))?;
+        let limit = self.test()?;
+        let (test, _) = self.step(Type::I64, Op::Binary(Binary::Less, index, limit))?;
+        let [body, after] = [self.new_block()?, self.new_block()?];
+        self.end(End::Fork(test), &[body, after])?;
+        self.ssa.seal_block(body)?;
+        self.ssa.seal_block(after)?;
+        if let Some(from) = self.arm(body)? {
+            self.here = from;
+            // Every way to here leads through the head, so its parameter still holds the index.
+            let (one, _) = self.step(Type::I64, Op::Constant(Number::Int(1)))?;
+            let (next, _) = self.step(Type::I64, Op::Binary(Binary::Plus, index, one))?;
+            self.end_with(End::Jump, &[(head, &[next])])?;
+        }
+        self.ssa.seal_block(head)?;
         Ok(Some(after))
     }
 
@@ -245,6 +274,13 @@ impl Compiler<'_> {
     fn end(&mut self, end: End, to: &[Block]) -> Result<(), Fault> {
         self.draft().end = Some(end);
         self.ssa.branch(self.here, to)?;
+        Ok(())
+    }
+
+    /// The same with an argument for each of a block's own parameters.
+    fn end_with(&mut self, end: End, to: &[(Block, &[Value])]) -> Result<(), Fault> {
+        self.draft().end = Some(end);
+        self.ssa.branch_with(self.here, to)?;
         Ok(())
     }
 

@@ -2,7 +2,7 @@
 //!
 //! It takes scripts that [`compile`](crate::compile::compile) has accepted; with others it may panic.
 use crate::lexer::Words;
-use crate::number::{Number, Unary, LEVELS};
+use crate::number::{Binary, Number, Unary, LEVELS};
 use sangvireb::Type;
 use std::collections::HashMap;
 
@@ -61,6 +61,21 @@ impl Direct<'_> {
                     self.turns = self.turns.checked_sub(1).ok_or(None)?;
                     self.arm(true)?;
                     self.words.at = test;
+                }
+                self.arm(false)?;
+            }
+            "repeat" => {
+                let name = self.words.take();
+                self.words.take();
+                let limit = self.words.at;
+                for index in (0..).map(Number::Int) {
+                    self.held.insert(name, index);
+                    self.words.at = limit;
+                    if !Binary::Less.apply(index, self.expression(0)).holds() {
+                        break;
+                    }
+                    self.turns = self.turns.checked_sub(1).ok_or(None)?;
+                    self.arm(true)?;
                 }
                 self.arm(false)?;
             }

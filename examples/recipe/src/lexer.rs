@@ -67,8 +67,8 @@ impl<'a> Words<'a> {
     /// Takes a word that can be a name; another is a fault.
     pub fn take_name(&mut self) -> Result<&'a str, Fault> {
         let word = self.take();
-        let free =
-            word.starts_with(|letter: char| letter.is_ascii_alphabetic()) && !["if", "else", "while", "return", "input"].contains(&word);
+        let free = word.starts_with(|letter: char| letter.is_ascii_alphabetic())
+            && !["if", "else", "while", "repeat", "to", "return", "input"].contains(&word);
         free.then_some(word).ok_or_else(|| format!("`{word}` is no name").into())
     }
 

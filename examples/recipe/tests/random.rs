@@ -22,39 +22,48 @@ fn inputs(rng: &mut Rng) -> Vec<Number> {
     (0..INPUTS).map(|place| if place % 2 == 0 { Number::Float(rng.float()) } else { Number::Int(rng.int()) }).collect()
 }
 
-/// The four suppositions, read from the calls and the tables.
-fn supposed(ssa: &SSABuilder) -> [bool; 4] {
+/// The five suppositions, read from the calls and the tables.
+fn supposed(ssa: &SSABuilder) -> [bool; 5] {
     let session = ssa.session();
     let ways = || {
         let branches = session.blocks().filter_map(|block| session.branch(block).unwrap());
-        branches.flat_map(|branch| session.destinations(branch).unwrap().map(move |way| (branch, way.target)))
+        branches.flat_map(|branch| session.destinations(branch).unwrap().zip(0..).map(move |(way, place)| (branch, place, way.target)))
     };
-    let mut foreign = false;
-    let mut own = vec![];
+    let (mut foreign, mut astray) = (false, false);
+    let (mut own, mut given) = (vec![], vec![]);
     for ([kind, x, y, z], answer) in ssa.list().calls().zip(session.answers()) {
         let answer = answer.expect("a builder keeps accepted calls");
         match Kind::from_number(kind).unwrap() {
-            Kind::MakeValue => own.push((x, answer)),
+            Kind::MakeValue | Kind::AppendBlockParam => own.push((x, answer)),
             Kind::UseVar => own.push((y, answer)),
             Kind::DefVar => foreign |= !own.contains(&(z, y)),
+            Kind::AppendArgument => {
+                given.push((x, z));
+                astray |= !own.contains(&(x, y));
+            }
             _ => {}
         }
     }
     [
         session.blocks().all(|block| session.is_sealed(block).unwrap()),
-        ways().all(|(_, to)| to != Block(0)),
-        ways().all(|(branch, to)| session.predecessors(to).unwrap().any(|other| other == branch)),
+        ways().all(|(_, _, to)| to != Block(0)),
+        ways().all(|(branch, _, to)| session.predecessors(to).unwrap().any(|other| other == branch)),
         !foreign,
+        !astray && ways().all(|(branch, place, to)| count(&given, (branch.0, place)) == session.caller_params(to).unwrap().len()),
     ]
+}
+
+fn count(given: &[(u32, u32)], way: (u32, u32)) -> usize {
+    given.iter().filter(|other| **other == way).count()
 }
 
 #[test]
 fn the_form_gives_what_the_script_gives() {
-    let (mut merges, mut zeros, mut aliases) = (0, 0, 0);
+    let (mut merges, mut zeros, mut aliases, mut indices) = (0, 0, 0, 0);
     for number in 0..SCRIPTS {
         let (script, mut rng) = script(number);
         let Recipe { form, ssa } = compile(&script).unwrap_or_else(|said| panic!("{said}\n{script}"));
-        assert_eq!(supposed(&ssa), [true; 4], "{script}");
+        assert_eq!(supposed(&ssa), [true; 5], "{script}");
         assert!(fed(&form), "{script}");
         for _ in 0..4 {
             let inputs = inputs(&mut rng);
@@ -63,10 +72,12 @@ fn the_form_gives_what_the_script_gives() {
         }
         merges += usize::from(form.blocks.iter().any(|body| !body.params.is_empty()));
         zeros += usize::from(form.blocks.iter().any(|body| !body.unset.is_empty()));
+        indices += usize::from(ssa.session().values().any(|data| data.sort == Sort::CallerParameter));
         aliases += usize::from(ssa.session().values().any(|data| data.sort == Sort::Parameter && data.target != data.value));
     }
     // most scripts show what matters
     assert!([merges, zeros, aliases].iter().all(|&count| count > SCRIPTS as usize / 2), "{merges} {zeros} {aliases}");
+    assert!(indices > SCRIPTS as usize / 4, "{indices}");
 }
 
 /// Has each way an argument for each parameter?

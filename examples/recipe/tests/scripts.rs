@@ -54,6 +54,24 @@ fn the_cure_counts_its_minutes() {
 }
 
 #[test]
+fn the_soak_carries_its_minute() {
+    assert_eq!(run(&script("soak"), &[Float(338.0), Float(180.0), Int(5)]), Ok(Float(15.0)));
+    assert_eq!(run(&script("soak"), &[Float(338.0), Float(180.0), Int(0)]), Ok(Float(0.0)));
+    let ssa = compile(&script("soak")).unwrap().ssa;
+    let session = ssa.session();
+    let heads: Vec<_> = session.blocks().filter(|&block| session.caller_params(block).unwrap().len() == 1).collect();
+    let [head] = heads[..] else { panic!("one loop has an index") };
+    // behind the index: heat and temperature, which are variables
+    assert_eq!(session.params(head).unwrap().len(), 3);
+}
+
+#[test]
+fn an_assignment_to_its_name_does_not_disturb_an_index() {
+    let script = "int n; int sum = 0; repeat n to 4 { sum = sum + n; n = 100; } return sum * 1000 + n;";
+    assert_eq!(run(script, &[]), Ok(Int(6004)));
+}
+
+#[test]
 fn a_swap_in_a_loop_loses_nothing() {
     let swap = "input int turns; float a = 1.0; float b = 2.0; float kept;
         while 0 < turns { kept = a; a = b; b = kept; turns = turns - 1; }

@@ -4,7 +4,7 @@ use borrow.Author.Needs.{needs}
 use native.Mathlib.Nat.{zero-add}
 use mathlib.Core.Path.{sym, _∙_}
 use borrow.Author.Tests.{not-true, not-false}
-use Rattle.draw.proofs.Checks.{drawable-decided}
+use Rattle.drawable.proofs.Checks.{drawable-decided}
 use Rattle.draw.proofs.Codes.{graph-short, form-short, not-drawable, no-room, room}
 use Rattle.draw.proofs.draw.Statement.{statement}
 use Rattle.draw.proofs.draw.Tie as tie

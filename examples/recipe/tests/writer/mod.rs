@@ -1,4 +1,4 @@
-//! Writes random scripts. Each loop has a counter of its own that only it raises, so every script ends.
+//! Writes random scripts. Each loop has a counter of its own that only it raises, or an index that it carries, so every script ends.
 use std::fmt::Write;
 
 /// Random numbers that a seed determines: a step of a Weyl sequence, mixed by two multiplications.
@@ -87,6 +87,7 @@ impl Writer<'_> {
                         return true;
                     }
                 }
+                2 if room && self.rng.one_in(2) => self.count(depth),
                 2 if room && self.loops < LOOPS => self.cycle(depth),
                 3 if depth > 0 && self.rng.one_in(4) => {
                     let result = self.expression(true, 2);
@@ -132,6 +133,16 @@ impl Writer<'_> {
         if !self.statements(depth + 1) {
             self.line(depth + 1, &format!("i{counter} = i{counter} + 1;"));
         }
+        self.line(depth, "}");
+    }
+
+    /// A loop with an index, whose name may be given anything in the body.
+    fn count(&mut self, depth: usize) {
+        self.forks -= 1;
+        let (name, turns, test) = (self.name(false, false), self.rng.below(4), self.expression(false, 1));
+        let also = if self.rng.one_in(2) { format!(" * (0 <= {test})") } else { String::new() };
+        self.line(depth, &format!("repeat {name} to {turns}{also} {{"));
+        self.statements(depth + 1);
         self.line(depth, "}");
     }
 

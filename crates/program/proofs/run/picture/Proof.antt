@@ -19,6 +19,4 @@ picture-spec =
     tie.close
     (tie.spec
     (λ c κs. search needs) (λ c. search needs) (λ c κs. search needs) (λ c κs. search needs) (λ c. search needs)
-    (λ c κs. search needs) (λ c. search needs) (λ c κs. search needs) (λ c. search needs) (λ c κs. search needs)
-    (λ c. search needs) array-share-prefix-text slice-aggregate-text (λ c κs. search needs) (λ c. search needs)
-    (λ c. search needs))
+    array-share-prefix-text slice-aggregate-text (λ c κs. search needs) (λ c. search needs) (λ c. search needs))
