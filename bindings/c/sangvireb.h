@@ -25,7 +25,7 @@ enum {
     SANGVIREB_MADE = 4096,
     SANGVIREB_OWN_PARAMS = 64, /* parameters of a block that are the caller's own */
     SANGVIREB_CALLS = 16384,
-    SANGVIREB_GRAPH_NEED = 4994,
+    SANGVIREB_GRAPH_NEED = 5058,
     SANGVIREB_FORM_NEED = 123653,
     SANGVIREB_WORK_NEED = 1665
 };
@@ -37,9 +37,10 @@ enum {
     SANGVIREB_BRANCHES = 66,
     SANGVIREB_SEALED = 130,
     SANGVIREB_EVER_DECLARED = 194,
-    SANGVIREB_DEST_ROWS = 258,
+    SANGVIREB_MARKS = 258, /* which variables are marked for stack maps */
+    SANGVIREB_DEST_ROWS = 322,
     SANGVIREB_DEST_ROW = 9,
-    SANGVIREB_PRED_ROWS = 834,
+    SANGVIREB_PRED_ROWS = 898,
     SANGVIREB_PRED_ROW = 65
 };
 
@@ -81,7 +82,8 @@ enum {
     SANGVIREB_KIND_HAS_ANY_PREDECESSORS = 13,      /* block */
     SANGVIREB_KIND_IS_SEALED = 14,                 /* block */
     SANGVIREB_KIND_APPEND_BLOCK_PARAM = 15,        /* block, type: a parameter of the caller's own */
-    SANGVIREB_KIND_APPEND_ARGUMENT = 16            /* branch, value, place of the destination: an argument for such a parameter */
+    SANGVIREB_KIND_APPEND_ARGUMENT = 16,           /* branch, value, place of the destination: an argument for such a parameter */
+    SANGVIREB_KIND_MARK_VAR_NEEDS_STACK_MAP = 17   /* variable: the values that it receives from here on are recorded */
 };
 
 /* Types of variables and values, by the crate's names: I8X16 is a vector of 16 lanes that are I8. sangvireb_type() has what there is to know of each. */
@@ -121,9 +123,10 @@ enum {
     SANGVIREB_SORT_CALLER_PARAMETER = 3 /* given to its block by the caller */
 };
 
-/* What a value is, from its cell of SANGVIREB_DESCRIBED: its type's number, its sort and its block. */
+/* What a value is, from its cell of SANGVIREB_DESCRIBED: its type's number, its sort, whether it is recorded for stack maps, and its block. */
 #define SANGVIREB_TYPE_OF(cell) ((uint32_t)(cell) % 32)
 #define SANGVIREB_SORT_OF(cell) ((uint32_t)(cell) / 32 % 4)
+#define SANGVIREB_RECORDED(cell) ((uint32_t)(cell) / 128 % 2)
 #define SANGVIREB_BLOCK_OF(cell) ((uint32_t)(cell) / 256)
 
 /* What a session itself answers. */
@@ -145,6 +148,7 @@ enum {
     SANGVIREB_NO_END = 14,
     SANGVIREB_PARAMS_FIXED = 17, /* the block is sealed, has a predecessor or a pending use: it gets no more parameters of the caller's */
     SANGVIREB_NO_PARAM_LEFT = 18, /* the block has 64 parameters of the caller's; or none that the destination has no argument for */
+    SANGVIREB_DEFINED = 19, /* a mark of a variable that has a definition, a parameter or a copied value on record in some block */
     SANGVIREB_LATE = 20 /* a definition in a block whose branch was declared before, even if it was removed since */
 };
 
@@ -183,6 +187,19 @@ sangvireb_row sangvireb_params(const uint32_t *params, size_t params_len, uint32
 
 /* The arguments of a branch's destination by its place. Lent is the table of arguments: the SANGVIREB_ARG_CELLS cells from SANGVIREB_ARG_ROWS on. */
 sangvireb_row sangvireb_args(const uint32_t *args, size_t args_len, uint32_t branch, uint32_t place);
+
+/* Is the value recorded for stack maps? Number 1 if it is and 0 if not; code SANGVIREB_ABSENT if no such value is lent. Lent are the values' descriptions: of
+ * a session's form as many cells from SANGVIREB_DESCRIBED on as there are values. */
+sangvireb_answer sangvireb_recorded(const uint32_t *described, size_t described_len, uint32_t value);
+
+/* The first recorded value from this number on. If there is none, a number that is not below `described_len`. */
+size_t sangvireb_next_recorded(const uint32_t *described, size_t described_len, size_t from);
+
+/* The same in a finished session's `form`: all recorded values, in order, are met by
+ *     for (uint32_t v = sangvireb_stack_map_value(form, 0); v < form[SANGVIREB_VALUE_COUNT]; v = sangvireb_stack_map_value(form, v + 1)) */
+static inline uint32_t sangvireb_stack_map_value(const uint32_t *form, uint32_t from) {
+    return (uint32_t)sangvireb_next_recorded(form + SANGVIREB_DESCRIBED, form[SANGVIREB_VALUE_COUNT], from);
+}
 
 typedef struct {
     uint32_t code;
@@ -249,7 +266,7 @@ static inline int sangvireb_fits(void) {
     static const uint32_t here[] = {
         SANGVIREB_VERSION, SANGVIREB_BLOCKS, SANGVIREB_VARIABLES, SANGVIREB_DESTS,
         SANGVIREB_MADE, SANGVIREB_CALLS, SANGVIREB_GRAPH_NEED, SANGVIREB_FORM_NEED,
-        SANGVIREB_WORK_NEED, SANGVIREB_KIND_APPEND_ARGUMENT, SANGVIREB_TYPE_F64X2 + 1, SANGVIREB_SORT_CALLER_PARAMETER + 1,
+        SANGVIREB_WORK_NEED, SANGVIREB_KIND_MARK_VAR_NEEDS_STACK_MAP, SANGVIREB_TYPE_F64X2 + 1, SANGVIREB_SORT_CALLER_PARAMETER + 1,
         SANGVIREB_OWN_PARAMS};
     for (uint32_t which = 0; which < sizeof here / sizeof here[0]; which++) {
         if (sangvireb_limit(which) != here[which]) {

@@ -1,5 +1,5 @@
 /* Two branches give a reading different values; after the join a parameter stands for it, and is drawn. Then the refusals of a whole session, unset
- * values of many types, a loop that carries an index, and resolving. */
+ * values of many types, a loop that carries an index, values recorded for stack maps, and resolving. */
 #include "sangvireb.h"
 #include <stdio.h>
 #include <string.h>
@@ -158,6 +158,35 @@ int main(void) {
         row = sangvireb_args(args, SANGVIREB_ARG_CELLS, p, 0);
         expect(row.length == 2 && args[row.start] == 3 * p + 1 && args[row.start + 1] == 3 * p + 2, "each way in brings the index, then the variable");
     }
+
+    /* variable 0 is marked: value 0, which it is given in block 0, is recorded, and its parameter 2 in block 1; value 1, which variable 1 is given, is not */
+    static const uint32_t marked[][4] = {
+        {1, 0, 0, 0}, {1, 1, 0, 0}, {2, 0, 5, 0}, {2, 1, 5, 0}, {SANGVIREB_KIND_MARK_VAR_NEEDS_STACK_MAP, 0, 0, 0}, {17, 0, 0, 0}, {17, 2, 0, 0}, {3, 0, 5, 0},
+        {4, 0, 0, 0}, {3, 0, 5, 0}, {4, 1, 1, 0}, {17, 0, 0, 0}, {17, 1, 0, 0}, {7, 0, 0, 0}, {8, 0, 1, 0}, {9, 1, 0, 0}, {6, 0, 1, 0}, {6, 1, 1, 0}, {18, 0, 0, 0}};
+    enum { P = sizeof marked / sizeof marked[0] };
+    for (size_t i = 0; i < P; i++) {
+        k[i] = marked[i][0], x[i] = marked[i][1], y[i] = marked[i][2], z[i] = marked[i][3];
+    }
+    r = sangvireb_session(k, P, x, P, y, P, z, P, codes, P, numbers, P, graph, SANGVIREB_GRAPH_NEED, form, SANGVIREB_FORM_NEED, work,
+                          SANGVIREB_WORK_NEED);
+    for (size_t i = 0; i < P; i++) {
+        uint32_t code = i == 6 ? SANGVIREB_ABSENT : i == 11 || i == 12 ? SANGVIREB_DEFINED : i == 18 ? SANGVIREB_UNKNOWN_KIND : 0;
+        expect(r == SANGVIREB_RUN && codes[i] == code, "twice is accepted; an absent variable gets 6, one with a definition 19, kind 18 gets 3");
+    }
+    expect(graph[SANGVIREB_MARKS] == 1 && graph[SANGVIREB_MARKS + 1] == 0, "variable 0 is marked and variable 1 is not");
+    const uint32_t *described = form + SANGVIREB_DESCRIBED;
+    uint32_t values_left = form[SANGVIREB_VALUE_COUNT], met = 0;
+    for (uint32_t v = sangvireb_stack_map_value(form, 0); v < values_left; v = sangvireb_stack_map_value(form, v + 1)) {
+        met = 10 * met + v + 1;
+    }
+    expect(values_left == 4 && met == 13, "recorded are, in order, the values 0 and 2");
+    for (uint32_t v = 0; v < 4; v++) {
+        sangvireb_answer one = sangvireb_recorded(described, values_left, v);
+        expect(one.code == 0 && one.number == (v == 0 || v == 2) && one.number == SANGVIREB_RECORDED(described[v]), "each by itself");
+        expect(SANGVIREB_TYPE_OF(described[v]) == 5 && SANGVIREB_BLOCK_OF(described[v]) == v / 2, "a recorded value has its type and block as before");
+    }
+    sangvireb_answer none = sangvireb_recorded(described, values_left, 4);
+    expect(none.code == SANGVIREB_ABSENT && none.number == 0, "a value that is not there gets 6");
 
     const uint32_t targets[] = {1, 2, 2, 4, 3, 9};
     sangvireb_answer a = sangvireb_resolve(targets, 6, 0);

@@ -59,7 +59,7 @@ impl Both {
             return Some(why);
         }
         self.expected.accepted(calls);
-        self.differing_cell().or_else(|| self.differing_row()).or_else(|| self.differing_bits(calls))
+        self.differing_cell().or_else(|| self.differing_row()).or_else(|| self.differing_bits(calls)).or_else(|| self.differing_recorded())
     }
 
     /// Too many calls: answer 2, and everything as it was.
@@ -90,6 +90,17 @@ impl Both {
         let zeros = (0..session.values()).filter(|&value| session.sort(value) == 2);
         let bits: Vec<(usize, u128)> = zeros.map(|value| (value as usize, raw::type_facts(session.type_of(value)).unset_bits())).collect();
         (bits != self.expected.bits).then(|| format!("bits of zeros: the oracle has {:x?}, the library {bits:x?}", self.expected.bits))
+    }
+
+    /// The recorded values in order and each value by itself, read through the library's own calls.
+    fn differing_recorded(&self) -> Option<String> {
+        let form = self.lent.form();
+        let described = &form[raw::DESCRIBED..][..form[raw::VALUE_COUNT] as usize];
+        let from = |place| Some(raw::next_recorded(described, place)).filter(|&found| found < described.len());
+        let walked: Vec<usize> = std::iter::successors(from(0), |&found| from(found + 1)).collect();
+        let single: Vec<usize> = (0..described.len()).filter(|&value| raw::recorded(described, value as u32) == (0, 1)).collect();
+        let due = &self.expected.recorded;
+        (walked != *due || single != *due).then(|| format!("recorded values: the oracle has {due:?}, the library {walked:?} in order and {single:?} one by one"))
     }
 
     fn differing_cell(&self) -> Option<String> {
@@ -150,6 +161,21 @@ mod tests {
         assert_eq!(both.difference(&[[1, 0, 0, 0], [2, 0, 2, 0], [6, 0, 0, 0]]), None);
         both.expected.rows.insert(Asked::Params(Block(0)), vec![]);
         assert_eq!(both.differing_row().expect("it differs"), "Params(Block(0)): the oracle has [], the library [0] with code 0");
+    }
+
+    #[test]
+    fn a_value_that_the_oracle_has_not_recorded_is_a_difference() {
+        let mut both = Both::new(8);
+        let calls = [[1, 0, 0, 0], [2, 0, 2, 0], [17, 0, 0, 0], [3, 0, 2, 0], [4, 0, 0, 0], [3, 0, 2, 0]];
+        assert_eq!(both.difference(&calls), None);
+        assert_eq!(both.expected.recorded, [0]);
+        both.expected.recorded = vec![];
+        assert_eq!(both.differing_recorded().expect("it differs"), "recorded values: the oracle has [], the library [0] in order and [0] one by one");
+        both.planted = Some(Box::new(|_, lent| lent.tables[3][raw::DESCRIBED + 1] += 128));
+        let named = both.difference(&calls).expect("it differs");
+        assert_eq!(named, format!("form cell {}: description of value 1: the oracle has 2, the library 130", raw::DESCRIBED + 1));
+        both.planted = Some(Box::new(|_, lent| lent.tables[2][raw::MARKS] = 0));
+        assert_eq!(both.difference(&calls).expect("it differs"), "graph cell 258: stack map marks of variable 0: the oracle has 1, the library 0");
     }
 
     #[test]

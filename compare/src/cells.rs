@@ -5,12 +5,13 @@ use sangvireb::raw::*;
 /// A table's start, its name, how long a row is (1: no rows), and what its rows are of.
 type Part = (usize, &'static str, usize, &'static str);
 
-const GRAPH: [Part; 7] = [
+const GRAPH: [Part; 8] = [
     (BLOCK_COUNT, "count of blocks", 1, ""),
     (TYPES, "types", TYPE_ROW, ""),
     (BRANCHES, "branch marks", 1, "block"),
     (SEALED, "sealed marks", 1, "block"),
     (EVER_DECLARED, "declared marks", 1, "block"),
+    (MARKS, "stack map marks", 1, "variable"),
     (DEST_ROWS, "destinations", DEST_ROW, "block"),
     (PRED_ROWS, "predecessors", PRED_ROW, "block"),
 ];

@@ -5,6 +5,8 @@ use std::collections::HashMap;
 
 /// The sort of a caller's parameter.
 const CALLERS: usize = 3;
+/// What a recorded value has more in its description.
+const RECORDED: u32 = 128;
 
 /// What must be in the needed cells; the work cells must all be 0.
 pub struct Expected {
@@ -17,12 +19,14 @@ pub struct Expected {
     pub rows: HashMap<Asked, Vec<u32>>,
     /// the zeros that the oracle names, with their bits
     pub bits: Vec<(usize, u128)>,
+    /// the values that the oracle has recorded for stack maps
+    pub recorded: Vec<usize>,
 }
 
 impl Expected {
     pub fn new() -> Expected {
         let (graph, form, work) = (vec![0; GRAPH_NEED], vec![0; FORM_NEED], vec![0; WORK_NEED]);
-        Expected { codes: vec![], numbers: vec![], graph, form, work, rows: HashMap::new(), bits: vec![] }
+        Expected { codes: vec![], numbers: vec![], graph, form, work, rows: HashMap::new(), bits: vec![], recorded: vec![] }
     }
 
     /// In the order in which the tables are lent.
@@ -35,6 +39,7 @@ impl Expected {
         self.form.fill(0);
         self.rows.clear();
         self.bits.clear();
+        self.recorded.clear();
         for answers in [&mut self.codes, &mut self.numbers] {
             answers.clear();
             answers.resize(calls, 0);
@@ -92,10 +97,18 @@ impl Expected {
                 self.form[ZERO_CALLS + 1 + place] = call as u32;
                 self.form[ZERO_BLOCKS + 1 + place] = block as u32;
             }
+            ("M", variables) => variables.iter().for_each(|variable| self.graph[MARKS + variable] = 1),
+            ("W", values) => self.record(values),
             ("O", placed) => row(&mut self.form, PLACED, placed),
             _ => return None,
         }
         Some(())
+    }
+
+    /// They have a bit more in their descriptions, which came before.
+    fn record(&mut self, values: &[usize]) {
+        values.iter().for_each(|value| self.form[DESCRIBED + value] += RECORDED);
+        self.recorded.extend_from_slice(values);
     }
 
     fn listed(&mut self, asked: Asked, entries: &[usize]) {

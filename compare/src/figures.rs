@@ -2,7 +2,7 @@
 use crate::both::Both;
 use lists::finished::Finished;
 use lists::{Call, MAX_CALLS};
-use sangvireb::{Kind, Type};
+use sangvireb::{Kind, Sort, Type};
 use sangvireb::raw::*;
 
 const CODES: usize = 21;
@@ -20,6 +20,9 @@ pub struct Figures {
     most: [usize; 8],
     /// destinations that carry fewer or more arguments than their block has parameters
     uneven: u64,
+    /// lists in which a variable is marked for stack maps; values recorded, of each sort
+    marked: u64,
+    recorded: [u64; Sort::ALL.len()],
     unfit: u64,
     /// by type: variables, made values and caller's parameters of it, and zeros
     types: [[u64; Type::ALL.len()]; 4],
@@ -50,7 +53,10 @@ impl Figures {
         let (values, zeros) = (form[VALUE_COUNT] as usize, form[ZERO_CALLS] as usize);
         let args = (0..BLOCKS * DESTS).map(|i| form[ARG_ROWS + PARAM_ROW * i] as usize).max().unwrap_or(0);
         let params = (0..BLOCKS).map(|b| form[PARAM_ROWS + PARAM_ROW * b] as usize).max().unwrap_or(0);
-        self.uneven += uneven(&Finished::of(calls, &both.lent));
+        let session = Finished::of(calls, &both.lent);
+        self.uneven += uneven(&session);
+        self.marked += u64::from(both.lent.graph()[MARKS..][..VARIABLES].contains(&1));
+        both.expected.recorded.iter().for_each(|&value| self.recorded[session.sort(value as u32) as usize] += 1);
         let links = longest_chain(&form[TARGET..TARGET + values]);
         let heights = [both.heights.scheduled, both.heights.results];
         self.raise([calls.len(), values, zeros, links, params, args, heights[0], heights[1]]);
@@ -80,8 +86,10 @@ impl Figures {
         self.calls += other.calls;
         self.unfit += other.unfit;
         self.uneven += other.uneven;
+        self.marked += other.marked;
         let sum = |mine: &mut [u64], theirs: &[u64]| mine.iter_mut().zip(theirs).for_each(|(m, t)| *m += t);
         sum(&mut self.codes, &other.codes);
+        sum(&mut self.recorded, &other.recorded);
         sum(&mut self.kinds, &other.kinds);
         sum(&mut self.accepted, &other.accepted);
         self.types.iter_mut().zip(&other.types).for_each(|(mine, theirs)| sum(mine, theirs));
@@ -106,12 +114,17 @@ impl Figures {
         let kinds: Vec<String> = (0..KINDS).map(|k| format!("{k}: {}/{}", self.accepted[k], self.kinds[k])).collect();
         let (codes, kinds) = (codes.join("  "), kinds.join("  "));
         let (last, above) = (KINDS - 2, KINDS - 1);
+        let recorded: Vec<String> = Sort::ALL.iter().zip(self.recorded).map(|(sort, count)| format!("{sort} {count}")).collect();
         let [variables, made, callers, zeros] = self.types.map(|of| of.into_iter().min().unwrap_or(0));
         format!(
-            "codes: {codes}\nsessions refused with 2: {}; destinations with another count than their block's parameters: {}\n\
+            "codes: {codes}\nlists with a marked variable: {}; values recorded: {}\nsessions refused with 2: {}; destinations with another count than their block's parameters: {}\n\
              accepted/asked by kind, {above} for all above {last}: {kinds}\n\
              of each type at least {variables} variables, {made} made values, {callers} caller's parameters, {zeros} zeros; first steps of zeros: {}",
-            self.unfit, self.uneven, self.steps
+            self.marked,
+            recorded.join(", "),
+            self.unfit,
+            self.uneven,
+            self.steps
         )
     }
 }

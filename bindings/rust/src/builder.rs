@@ -111,6 +111,16 @@ impl SSABuilder {
         self.ask(|list| list.append_argument(branch, value, place))
     }
 
+    /// See [`List::mark_var_needs_stack_map`].
+    pub fn mark_var_needs_stack_map(&mut self, variable: Variable) -> Result<Variable, Refused> {
+        self.ask(|list| list.mark_var_needs_stack_map(variable))
+    }
+
+    /// See [`Session::stack_map_values`].
+    pub fn stack_map_values(&self) -> impl Iterator<Item = Value> + '_ {
+        self.session.stack_map_values()
+    }
+
     /// Ends a block with a branch to one block, declared to it. See [`branch`](SSABuilder::branch).
     pub fn jump(&mut self, from: Block, to: Block) -> Result<Branch, Refused> {
         self.branch(from, &[to])

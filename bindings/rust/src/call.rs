@@ -89,6 +89,7 @@ impl fmt::Display for Words {
             Kind::HasAnyPredecessors | Kind::IsSealed => write!(f, "{kind} of {}", Block(x)),
             Kind::AppendBlockParam => write!(f, "{kind} of {} to {}", type_word(y), Block(x)),
             Kind::AppendArgument => write!(f, "{kind} of {} to destination {z} of {}", Value(y), Branch(x)),
+            Kind::MarkVarNeedsStackMap => write!(f, "{kind} of {}", Variable(x)),
         }
     }
 }

@@ -26,6 +26,7 @@ fn named([kind, x, y, z]: [u32; 4]) -> Vec<Named> {
         Kind::DefVar => vec![Named::Variable(x), Named::Value(y), Named::Block(z)],
         Kind::DefVarAnswer => vec![Named::Variable(x), Named::Use(y), Named::Block(z)],
         Kind::UseVar => vec![Named::Variable(x), Named::Block(y)],
+        Kind::MarkVarNeedsStackMap => vec![Named::Variable(x)],
         Kind::NewDest => vec![Named::Branch(x), Named::Block(y)],
         Kind::AppendArgument => vec![Named::Branch(x), Named::Value(y), Named::Destination(x, z)],
         Kind::DeclareBlockPredecessor | Kind::RemoveBlockPredecessor => vec![Named::Block(x), Named::Branch(y)],
@@ -111,6 +112,7 @@ pub(crate) fn reason(before: &Session, call: [u32; 4], refusal: Refusal) -> Stri
             format!("{block} has {} parameters of the caller's, which is the limit", raw::OWN_PARAMS)
         }
         Refusal::NoParamLeft => none_left(before, branch, z).unwrap_or_else(|| refusal.to_string()),
+        Refusal::Defined => defined_as(before, Variable(x)).unwrap_or_else(|| refusal.to_string()),
         Refusal::Late => format!("{} was declared before, so {} takes no more definitions", Branch(z), Block(z)),
     }
 }
@@ -150,6 +152,13 @@ fn none_left(before: &Session, branch: Branch, place: u32) -> Option<String> {
         1 => format!("{} has 1 parameter of the caller's, and destination {place} has its argument", way.target),
         _ => format!("{} has {count} parameters of the caller's, and destination {place} has an argument for each", way.target),
     })
+}
+
+/// Where a variable that comes to be marked has a definition already.
+fn defined_as(before: &Session, variable: Variable) -> Option<String> {
+    let found = |block| Some((block, before.def(variable, block).ok()??));
+    let (block, value) = before.blocks().find_map(found)?;
+    Some(format!("{variable} is {value} in {block} already, and a variable is marked before it has any definition"))
 }
 
 fn declared_to(before: &Session, branch: Branch) -> String {

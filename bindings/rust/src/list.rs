@@ -227,6 +227,13 @@ impl List {
         self.record(Kind::AppendArgument, branch.0, value.0, place, |argument| argument)
     }
 
+    /// Marks a variable that holds what a garbage collector must see: from here on each value that it is given and each parameter that the builder makes
+    /// for it is recorded, and [`Session::stack_map_values`] has them. A variable is marked before it has any definition on record, else it is refused as
+    /// [`Defined`](crate::Refusal::Defined); twice is once.
+    pub fn mark_var_needs_stack_map(&mut self, variable: Variable) -> Call<Variable> {
+        self.record(Kind::MarkVarNeedsStackMap, variable.0, 0, 0, Variable)
+    }
+
     /// Ends a block with a branch to one block, declared to it.
     pub fn jump(&mut self, from: Block, to: Block) -> Call<Branch> {
         self.branch(from, &[to])

@@ -51,8 +51,10 @@ pub const BRANCHES: usize = TYPES + TYPE_ROW;
 pub const SEALED: usize = BRANCHES + BLOCKS;
 /// In `graph`: which blocks' branches were ever declared, also those that were removed again.
 pub const EVER_DECLARED: usize = SEALED + BLOCKS;
+/// In `graph`: which variables are marked for stack maps.
+pub const MARKS: usize = EVER_DECLARED + BLOCKS;
 /// In `graph`: a row of destinations for each block.
-pub const DEST_ROWS: usize = EVER_DECLARED + BLOCKS;
+pub const DEST_ROWS: usize = MARKS + VARIABLES;
 /// In `graph`: a row of predecessors for each block.
 pub const PRED_ROWS: usize = DEST_ROWS + BLOCKS * DEST_ROW;
 /// Cells that `graph` needs.
@@ -196,6 +198,8 @@ extern "C" {
     fn sangvireb_resolve(targets: *const u32, targets_len: usize, value: u32) -> Answer;
     fn sangvireb_params(params: *const u32, params_len: usize, block: u32) -> Span;
     fn sangvireb_args(args: *const u32, args_len: usize, branch: u32, place: u32) -> Span;
+    fn sangvireb_recorded(described: *const u32, described_len: usize, value: u32) -> Answer;
+    fn sangvireb_next_recorded(described: *const u32, described_len: usize, from: usize) -> usize;
     fn sangvireb_draw(
         graph: *const u32,
         graph_len: usize,
@@ -305,6 +309,30 @@ pub fn row<'a>(params: &'a [u32], args: &'a [u32], asked: Asked) -> &'a [u32] {
 /// If the library that is linked was built for other limits ([`check`](crate::check)).
 pub fn row_code(params: &[u32], args: &[u32], asked: Asked) -> u32 {
     locate(params, args, asked).1.code
+}
+
+/// Is the value recorded for stack maps? Lent are the values' descriptions, the cells from [`DESCRIBED`] on. Answers a code and a number: 0 and 1 if it is, 0
+/// and 0 if it isn't, 6 and 0 if no such value is lent.
+///
+/// # Panics
+///
+/// If the library that is linked was built for other limits ([`check`](crate::check)).
+pub fn recorded(described: &[u32], value: u32) -> (u32, u32) {
+    library::must_fit();
+    // SAFETY: the proved contract has no precondition, and the pair is the slice's own pointer and length, which is only read.
+    let answer = unsafe { sangvireb_recorded(described.as_ptr(), described.len(), value) };
+    (answer.code, answer.number)
+}
+
+/// The first recorded value from this number on; if there is none, a number past the lent descriptions.
+///
+/// # Panics
+///
+/// If the library that is linked was built for other limits ([`check`](crate::check)).
+pub fn next_recorded(described: &[u32], from: usize) -> usize {
+    library::must_fit();
+    // SAFETY: the proved contract has no precondition, and the pair is the slice's own pointer and length, which is only read.
+    unsafe { sangvireb_next_recorded(described.as_ptr(), described.len(), from) }
 }
 
 /// Writes finished tables, whatever they hold, into the buffer, as text in Graphviz's language DOT. Answers a code and a length: 0 and the

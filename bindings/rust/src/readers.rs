@@ -120,6 +120,11 @@ impl Session {
         Ok(stored_type(self.graph[raw::TYPES + 1 + place]))
     }
 
+    /// Is the variable marked, so that stack maps must have what it receives?
+    pub fn is_marked(&self, variable: Variable) -> Result<bool, Refused> {
+        Ok(self.graph[raw::MARKS + self.variable(variable)?] != 0)
+    }
+
     /// Is the block sealed?
     pub fn is_sealed(&self, block: Block) -> Result<bool, Refused> {
         Ok(self.graph[raw::SEALED + self.block(block)?] != 0)
@@ -199,6 +204,25 @@ impl Session {
             block: Block(block),
             target: Value(self.form[raw::TARGET + place]),
         }
+    }
+
+    /// Is the value recorded, so that stack maps must have it? It is exactly if a definition gave it to a marked variable or if it is a parameter that the
+    /// builder made for one.
+    pub fn is_recorded(&self, value: Value) -> Result<bool, Refused> {
+        self.there(Named::Value(value.0)).map(|()| raw::recorded(self.descriptions(), value.0).1 != 0)
+    }
+
+    /// The recorded values, by number. Aliases are among them: a value that became one is there under its own number, and what it stands for is there only
+    /// if that was recorded too.
+    pub fn stack_map_values(&self) -> impl Iterator<Item = Value> + '_ {
+        let described = self.descriptions();
+        let from = move |place| Some(raw::next_recorded(described, place)).filter(|&found| found < described.len());
+        std::iter::successors(from(0), move |&found| from(found + 1)).map(|found| Value(found as u32))
+    }
+
+    /// What each value is, a cell each.
+    fn descriptions(&self) -> &[u32] {
+        &self.form[raw::DESCRIBED..][..self.value_count() as usize]
     }
 
     /// The value that this one stands for: itself if it is no alias.

@@ -36,13 +36,15 @@ pub enum Refusal {
     ParamsFixed = 17,
     /// The block has as many parameters of the caller's as it can have; or, for an argument, none that the destination has no argument for.
     NoParamLeft = 18,
+    /// A mark of a variable that has a definition on record in some block: one that it was given, a parameter, or a value copied there by a use.
+    Defined = 19,
     /// A definition in a block whose branch was declared before, even if it was removed since.
     Late = 20,
 }
 
 impl Refusal {
     /// All refusals, by code.
-    pub const ALL: [Refusal; 15] = [
+    pub const ALL: [Refusal; 16] = [
         Refusal::UnknownKind,
         Refusal::Full,
         Refusal::Skips,
@@ -57,6 +59,7 @@ impl Refusal {
         Refusal::NoEnd,
         Refusal::ParamsFixed,
         Refusal::NoParamLeft,
+        Refusal::Defined,
         Refusal::Late,
     ];
 
@@ -88,6 +91,7 @@ impl fmt::Display for Refusal {
             Refusal::NoEnd => "the chain of aliases has no end",
             Refusal::ParamsFixed => "the block is sealed, entered or waited in, so the caller's parameters of it are fixed",
             Refusal::NoParamLeft => "the block has no more parameters of the caller's",
+            Refusal::Defined => "the variable has a definition already, which stack maps would miss",
             Refusal::Late => "the block's branch was declared before, so the block takes no more definitions",
         })
     }

@@ -11,7 +11,8 @@ impl fmt::Display for Session {
             writeln!(f, "refused: {refused}")?;
         }
         for variable in self.variables() {
-            writeln!(f, "{variable}: {}", known(self.type_of(variable))?)?;
+            let marked = if known(self.is_marked(variable))? { ", marked for stack maps" } else { "" };
+            writeln!(f, "{variable}: {}{marked}", known(self.type_of(variable))?)?;
         }
         self.blocks().try_for_each(|block| self.show(f, block))
     }
@@ -30,7 +31,8 @@ impl Session {
         for data in self.values().filter(|data| data.block == block) {
             let end = Some(self.end_of(data.value)).filter(|end| *end != data.value);
             let bits = data.unset_bits().map_or(String::new(), |bits| format!(" with bits {bits:#x}"));
-            writeln!(f, "  {}: {}, {}{bits}{}", data.value, data.ty, data.sort, words(", now ", end.into_iter()))?;
+            let recorded = if known(self.is_recorded(data.value))? { ", recorded for stack maps" } else { "" };
+            writeln!(f, "  {}: {}, {}{bits}{}{recorded}", data.value, data.ty, data.sort, words(", now ", end.into_iter()))?;
         }
         for variable in self.variables() {
             if let Some(value) = known(self.def(variable, block))? {

@@ -74,6 +74,8 @@ numbered!(
     AppendBlockParam "append_block_param",
     /// Gives a destination an argument for such a parameter.
     AppendArgument "append_argument",
+    /// Marks a variable: the values that it receives are recorded for stack maps.
+    MarkVarNeedsStackMap "mark_var_needs_stack_map",
 );
 
 numbered!(

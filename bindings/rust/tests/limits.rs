@@ -126,5 +126,5 @@ fn an_empty_list_leaves_the_empty_session() {
 fn types_and_kinds_are_numbered() {
     assert!(Type::ALL.iter().all(|&ty| Type::from_number(ty.number()) == Some(ty)));
     assert_eq!((Type::from_number(24), Type::from_number(25)), (Some(Type::F64X2), None));
-    assert_eq!((Kind::from_number(0), Kind::from_number(16), Kind::from_number(17)), (None, Some(Kind::AppendArgument), None));
+    assert_eq!((Kind::from_number(0), Kind::from_number(17), Kind::from_number(18)), (None, Some(Kind::MarkVarNeedsStackMap), None));
 }

@@ -35,7 +35,7 @@ fn said(calls: &[[u32; 4]]) -> String {
 #[test]
 fn every_refusal_of_every_kind() {
     let expected = [
-        ([0, 7, 8, 9], "kind 0 with 7, 8 and 9: kinds are 1 to 16"),
+        ([0, 7, 8, 9], "kind 0 with 7, 8 and 9: kinds are 1 to 17"),
         ([1, 64, 0, 0], "declare_block of block 64: the limit is 64 blocks, 0 to 63"),
         ([1, 4, 0, 0], "declare_block of block 4: the next is block 3"),
         ([2, 64, 2, 0], "declare_var of variable 64 as I32: the limit is 64 variables, 0 to 63"),
@@ -85,6 +85,11 @@ fn every_refusal_of_every_kind() {
         (
             [16, 0, 0, 0],
             "append_argument of value 0 to destination 0 of branch 0: branch 0 is declared to block 1, so its caller's arguments are fixed",
+        ),
+        ([17, 2, 0, 0], "mark_var_needs_stack_map of variable 2: variable 2 is not declared; 2 variables are"),
+        (
+            [17, 0, 0, 0],
+            "mark_var_needs_stack_map of variable 0: variable 0 is value 0 in block 0 already, and a variable is marked before it has any definition",
         ),
     ];
     for (call, words) in expected {

@@ -105,6 +105,16 @@ fn a_row_is_a_part_of_the_lent_table() {
     assert_eq!(row.as_ptr_range(), args[511 * raw::PARAM_ROW + 1..].as_ptr_range());
 }
 
+#[test]
+fn recorded_values_of_any_descriptions() {
+    let described = [0, 128, 127, 255, 256, u32::MAX];
+    let recorded = [(0, 0), (0, 1), (0, 0), (0, 1), (0, 0), (0, 1), (6, 0)];
+    assert!((0..7).map(|value| raw::recorded(&described, value)).eq(recorded));
+    assert_eq!(raw::recorded(&[], 0), (6, 0));
+    assert_eq!([0, 1, 2, 3, 4, 5].map(|from| raw::next_recorded(&described, from)), [1, 1, 3, 3, 5, 5]);
+    assert!(raw::next_recorded(&described, 6) >= 6 && raw::next_recorded(&described[..5], 4) >= 5 && raw::next_recorded(&[], usize::MAX) == usize::MAX);
+}
+
 fn told<'a>(params: &'a [u32], args: &'a [u32], asked: Asked) -> (u32, &'a [u32]) {
     (raw::row_code(params, args, asked), raw::row(params, args, asked))
 }

@@ -1,7 +1,7 @@
 //! What a session is asked for: arguments and answers with aliases resolved, the zeros of a block, branches made whole.
 mod common;
 use common::{branch, builder, code, set, FIRST};
-use sangvireb::{Block, Branch, List, Refusal, SSABuilder, Sort, Type, Value, Variable};
+use sangvireb::{raw, Block, Branch, List, Refusal, SSABuilder, Sort, Type, Value, Variable};
 
 #[test]
 fn arguments_and_answers_resolved() {
@@ -110,6 +110,68 @@ fn a_loop_that_carries_an_index() {
     }
     let words = session.to_string();
     assert!(words.contains("takes value 0, value 3\n  value 0: I64, caller's parameter\n"), "{words}");
+}
+
+/// The curing record is an object of a garbage collector's: its variable is marked. What it is given and the parameter at the join are recorded; the
+/// temperature's values are not, nor is a zero that nobody gave.
+#[test]
+fn values_that_stack_maps_must_have() {
+    let mut ssa = builder(4);
+    let [record, celsius] = [FIRST, Variable(1)];
+    ssa.declare_var(celsius, Type::I32).unwrap();
+    assert_eq!(ssa.stack_map_values().count(), 0);
+    ssa.mark_var_needs_stack_map(record).unwrap();
+    let [new, cold] = [set(&mut ssa, record, 0), set(&mut ssa, celsius, 0)];
+    branch(&mut ssa, 0, &[1, 2]);
+    branch(&mut ssa, 1, &[3]);
+    let copy = set(&mut ssa, record, 2);
+    branch(&mut ssa, 2, &[3]);
+    ssa.seal_all_blocks().unwrap();
+    let joined = ssa.use_var(record, Block(3)).unwrap();
+    assert_eq!(ssa.use_var(celsius, Block(3)), Ok(cold));
+    assert!(ssa.stack_map_values().eq([new, copy, joined]));
+    let session = ssa.session();
+    assert_eq!([new, cold, copy, joined].map(|value| session.is_recorded(value).unwrap()), [true, false, true, true]);
+    assert!(session.params(Block(3)).unwrap().eq([joined]));
+    let words = session.to_string();
+    assert!(words.contains("variable 0: I32, marked for stack maps\nvariable 1: I32\n"), "{words}");
+    assert!(words.contains(&format!("  {joined}: I32, parameter, recorded for stack maps\n  value 4: I32, parameter, now value 1\n")), "{words}");
+}
+
+/// A parameter of a marked variable stays recorded when it becomes an alias. The zero that it then stands for is not recorded until it is given.
+#[test]
+fn a_zero_is_recorded_once_it_is_given() {
+    let mut ssa = builder(2);
+    ssa.mark_var_needs_stack_map(FIRST).unwrap();
+    ssa.seal_block(Block(0)).unwrap();
+    let zero = ssa.use_var(FIRST, Block(0)).unwrap();
+    let param = ssa.use_var(FIRST, Block(0)).unwrap();
+    assert_eq!(ssa.session().resolve(param), Ok(zero));
+    assert!(ssa.stack_map_values().eq([param]));
+    ssa.def_var(FIRST, zero, Block(1)).unwrap();
+    assert!(ssa.stack_map_values().eq([param, zero]));
+}
+
+/// The same list with a call of no kind in place of each mark leaves the same, but for marks and recorded values.
+#[test]
+fn marks_change_nothing_else() {
+    let mut list = List::new();
+    for call in [[1, 0, 0, 0], [1, 1, 0, 0], [2, 0, 2, 0], [17, 0, 0, 0], [3, 0, 2, 0], [4, 0, 0, 0], [17, 0, 0, 0], [6, 0, 1, 0], [12, 0, 0, 0]] {
+        let _ = list.push(call);
+    }
+    let mut without = List::new();
+    for call in list.calls() {
+        let _ = without.push(if call[0] == 17 { [0; 4] } else { call });
+    }
+    let [with, without] = [list, without].map(|list| list.run_all().unwrap());
+    assert!(with.answers().zip(without.answers()).enumerate().all(|(place, (ours, theirs))| [3, 6].contains(&place) || ours == theirs));
+    let (mut graph, mut form) = (with.graph().to_vec(), with.form().to_vec());
+    assert_eq!((graph[raw::MARKS], with.stack_map_values().count()), (1, 2));
+    graph[raw::MARKS] = 0;
+    for cell in &mut form[raw::DESCRIBED..][..2] {
+        *cell -= 128;
+    }
+    assert!(graph == without.graph() && form == without.form());
 }
 
 #[test]

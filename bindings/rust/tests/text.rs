@@ -8,7 +8,7 @@ fn example(name: &str) -> String {
 
 #[test]
 fn examples_come_out_as_they_went_in() {
-    for name in ["press", "loop", "index", "swap", "unset", "bad"] {
+    for name in ["press", "loop", "index", "swap", "unset", "bad", "record"] {
         let list: List = example(name).parse().unwrap();
         assert_eq!(list.to_string(), example(name));
     }
@@ -16,6 +16,7 @@ fn examples_come_out_as_they_went_in() {
     assert_eq!(lists.len(), 12);
     assert_eq!(lists.iter().map(List::to_string).collect::<String>(), example("starred"));
     assert_eq!(List::read_all(&example("carried")).unwrap().len(), 6);
+    assert_eq!(List::read_all(&example("marked")).unwrap().len(), 2);
 }
 
 #[test]

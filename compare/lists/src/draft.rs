@@ -128,6 +128,16 @@ impl<'r> Draft<'r> {
         }
         for v in 0..self.types.len() {
             self.push([2, v as u32, self.types[v], 0]);
+            if self.rng.chance(self.manner.marked, 100) {
+                self.mark(v as u32);
+            }
+        }
+    }
+
+    /// Now and then twice.
+    fn mark(&mut self, v: u32) {
+        for _ in 0..self.rng.pick(&[1, 1, 1, 2]) {
+            self.push([17, v, 0, 0]);
         }
     }
 
@@ -220,7 +230,7 @@ impl<'r> Draft<'r> {
 
     fn act(&mut self, b: u32) {
         let v = self.rng.below(self.types.len() as u32);
-        match self.rng.below(14) {
+        match self.rng.below(15) {
             0..=3 => self.give_made(v, b),
             4..=7 => self.use_var(v, b),
             8 => {
@@ -232,6 +242,7 @@ impl<'r> Draft<'r> {
             11 => self.give_own(v, b),
             13 if !self.manner.proper => self.give_step(v, b),
             12 if !self.manner.proper => self.late_param(),
+            13 if self.manner.marked > 0 => self.mark(v),
             _ => {
                 let kind = self.rng.within(13, 14);
                 let asked = self.any_block();
@@ -395,7 +406,7 @@ impl<'r> Draft<'r> {
     fn tail(&mut self) {
         for _ in 0..self.rng.below(self.manner.tail + 1) {
             let (b, v) = (self.any_block(), self.rng.below(self.types.len() as u32));
-            match self.rng.below(if self.manner.proper { 6 } else { 14 }) {
+            match self.rng.below(if self.manner.proper { 6 } else { 15 }) {
                 0..=5 => self.use_var(v, b),
                 6 => self.give_answer(v, b),
                 7 => self.give_anything(v, b),
@@ -407,6 +418,7 @@ impl<'r> Draft<'r> {
                 9 => self.seal(b),
                 10 => self.late_param(),
                 11 => self.late_argument(b),
+                12 if self.manner.marked > 0 => self.mark(v),
                 _ => self.act(b),
             }
         }

@@ -25,6 +25,7 @@ pub fn fields(kind: u32) -> [Field; 3] {
         6 => [Variable, Block, Unread],
         8..=10 => [Block, Block, Unread],
         16 => [Block, Value, Place],
+        17 => [Variable, Unread, Unread],
         _ => [Unread; 3],
     }
 }

@@ -34,6 +34,8 @@ struct Figures {
     resolved: [u64; 3],
     /// rows with entries, empty rows, no row
     rows: [u64; 3],
+    /// values recorded, not recorded, not there
+    recorded: [u64; 3],
 }
 
 fn calls(rng: &mut Rng) -> Vec<Call> {
@@ -160,6 +162,7 @@ fn check_answers(after: &Lists) -> Result<(), String> {
             0 | 3..=13 => true,
             17 => *kind == 15,
             18 => [15, 16].contains(kind),
+            19 => *kind == 17,
             20 => [4, 5].contains(kind),
             _ => false,
         };
@@ -234,6 +237,38 @@ fn resolve_round(field: &mut Field, rng: &mut Rng, figures: &mut Figures) -> Res
                 return Err(format!("resolving {value} in {targets:?} answers {answer:?} instead of {due:?}, or changes something"));
             }
             figures.resolved[[0, 6, 14].iter().position(|&code| code == due.0).expect("one of three codes")] += 1;
+        }
+    }
+    Ok(())
+}
+
+/// What docs/RULES.md says of recorded values, taken literally.
+fn recorded_due(described: &[u32], value: u32) -> (u32, u32) {
+    described.get(value as usize).map_or((6, 0), |cell| (0, cell >> 7 & 1))
+}
+
+/// Descriptions of any length that hold anything: each value by itself, and all recorded ones in order.
+fn recorded_round(field: &mut Field, rng: &mut Rng, figures: &mut Figures) -> Result<(), String> {
+    let long = rng.pick(&[0, 1, 2, 3, 10, 60, 300]) + rng.below(3) as usize;
+    let described = garbage(long, rng);
+    for side in [Side::Start, Side::End] {
+        let (ground, around) = (&mut field.grounds[0], rng.any());
+        ground.fill(&described, around, side);
+        for value in [rng.below(long as u32 + 1), long.saturating_sub(1) as u32, long as u32, rng.any(), u32::MAX] {
+            let (answer, due) = (raw::recorded(ground.lend(long, side), value), recorded_due(&described, value));
+            if answer != due {
+                return Err(format!("whether value {value} is recorded in {described:?} is answered {answer:?} instead of {due:?}"));
+            }
+            figures.recorded[if due.0 == 6 { 2 } else { 1 - due.1 as usize }] += 1;
+            let from = value as usize;
+            let next = (from..long).find(|&later| recorded_due(&described, later as u32).1 == 1);
+            let found = raw::next_recorded(ground.lend(long, side), from);
+            if next != Some(found).filter(|&found| found < long) {
+                return Err(format!("the first recorded value from {from} on in {described:?} is answered {found} instead of {next:?}"));
+            }
+        }
+        if ground.lend(long, side) != described || !ground.kept_around(long, around, side) {
+            return Err("reading what is recorded changed something".to_string());
         }
     }
     Ok(())
@@ -342,6 +377,7 @@ pub fn run(rounds: u64, seed: u64, heap: bool) -> ExitCode {
         let held = round(&mut field, &mut rng, &mut figures)
             .and_then(|()| resolve_round(&mut field, &mut rng, &mut figures))
             .and_then(|()| row_round(&mut field, &mut rng, &mut figures))
+            .and_then(|()| recorded_round(&mut field, &mut rng, &mut figures))
             .and_then(|()| drawing.round(&mut rng));
         if let Err(what) = held {
             println!("round {number} of seed {seed}: {what}");
@@ -363,6 +399,8 @@ fn summary(figures: &Figures, drawing: &Drawing, heap: bool) {
     println!("{} rounds, {} calls; sessions that answered 0: {ran}, 1: {short}, 2: {unfit}", figures.rounds, figures.calls);
     println!("resolving answered 0: {ended}, 6: {past}, 14: {lost}");
     println!("rows with entries: {full}, empty: {empty}, not there: {none}");
+    let [marked, unmarked, absent] = figures.recorded;
+    println!("values recorded: {marked}, not recorded: {unmarked}, not there: {absent}");
     println!("{drawing}");
     println!("nothing outside what was lent was touched, and every answer is as it must be");
 }

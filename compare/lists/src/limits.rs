@@ -27,11 +27,13 @@ pub fn fixed() -> Vec<Vec<Call>> {
 
 /// As many calls as a list can have, and as many values: made, and for each variable in each block, none of which has a way in, a parameter and a zero in two
 /// steps.
+/// All variables are marked, so every such parameter is recorded; marked again at the end, each is refused.
 /// Block 2 has as many parameters of the caller's as it can have, which count as made. Once no more can be made, making one is still refused for other
 /// reasons first: an unknown block, an unknown type, a branch; for a parameter of the caller's, a block that is full or sealed.
 fn everything() -> Vec<Call> {
     let mut calls = declared_as(BLOCKS, VARIABLES, |v| types::IN_TWO_STEPS[v as usize % types::IN_TWO_STEPS.len()].number());
     let (absent, no_type) = (BLOCKS as u32, Type::ALL.len() as u32);
+    calls.extend(marks());
     calls.extend((0..OWN_PARAMS + 1).map(|_| [15, 2, 2, 0]));
     calls.extend((0..MADE - OWN_PARAMS + 1).map(|_| [3, 0, 2, 0]));
     calls.extend([[3, absent, 2, 0], [3, 0, no_type, 0], [7, 1, 0, 0], [3, 1, 2, 0]]);
@@ -41,8 +43,14 @@ fn everything() -> Vec<Call> {
     for _ in 0..2 {
         calls.extend((0..BLOCKS as u32).flat_map(|b| (0..VARIABLES as u32).map(move |v| [6, v, b, 0])));
     }
+    calls.extend(marks());
     calls.resize(MAX_CALLS, [14, 0, 0, 0]);
     calls
+}
+
+/// A mark for every variable, and one for a variable more than there can be.
+fn marks() -> impl Iterator<Item = Call> {
+    (0..VARIABLES as u32 + 1).map(|v| [17, v, 0, 0])
 }
 
 /// One more block and variable than there can be: the last of each is refused.
@@ -60,6 +68,7 @@ fn declared_as(blocks: usize, vars: usize, mut ty: impl FnMut(u32) -> u32) -> Ve
 /// More values than can be made, spread over the blocks, each given to a variable.
 fn made_values(rng: &mut Rng) -> Vec<Call> {
     let mut calls = declared(BLOCKS, VARIABLES);
+    calls.extend(marks().filter(|_| rng.chance(1, 3)));
     for i in 0..MADE as u32 + 3 {
         let b = rng.below(BLOCKS as u32);
         calls.push([if rng.chance(1, 4) { 15 } else { 3 }, b, 2, 0]);
@@ -90,6 +99,7 @@ fn every_cell(rng: &mut Rng) -> Vec<Call> {
     let mut calls = declared_as(BLOCKS, VARIABLES, |_| if wide { rng.pick(&types::IN_TWO_STEPS).number() } else { types::any(rng) });
     let islands = rng.chance(1, 2);
     let full = rng.below(BLOCKS as u32);
+    calls.extend(marks().filter(|_| rng.chance(1, 3)));
     calls.extend((0..OWN_PARAMS).map(|_| [15, full, 2, 0]));
     calls.extend((0..MADE as u32).map(|_| [3, 0, 2, 0]));
     if !islands {

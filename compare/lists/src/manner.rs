@@ -44,6 +44,8 @@ pub struct Manner {
     pub own_params: u32,
     /// of a hundred, arguments of the caller's that are left out or otherwise wrong; in a proper list, those that come from another block
     pub astray: u32,
+    /// of a hundred, variables that are marked for stack maps when they are declared; further marks come at any time, unless there are none at all
+    pub marked: u32,
 }
 
 impl Manner {
@@ -85,6 +87,7 @@ impl Manner {
             edges_wait: rng.chance(1, 3),
             own_params: rng.pick(&[0, 0, 1, 1, 2, 4]),
             astray: rng.pick(&[0, 0, 10, 40]),
+            marked: rng.pick(&[0, 20, 70]),
         }
     }
 }

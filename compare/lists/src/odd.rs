@@ -28,7 +28,7 @@ pub fn call(calls: u32, blocks: u32, rng: &mut Rng) -> Call {
 
 /// A call that may well be accepted, whatever came before.
 pub fn likely(calls: u32, blocks: u32, vars: u32, types: &[u32], rng: &mut Rng) -> Call {
-    let kind = rng.pick(&[1, 2, 3, 3, 4, 4, 5, 6, 6, 6, 7, 8, 8, 9, 9, 9, 10, 11, 12, 13, 14, 15, 15, 16, 16]);
+    let kind = rng.pick(&[1, 2, 3, 3, 4, 4, 5, 6, 6, 6, 7, 8, 8, 9, 9, 9, 10, 11, 12, 13, 14, 15, 15, 16, 16, 17, 17]);
     let (b, c, v) = (rng.below(blocks + 1), rng.below(blocks + 1), rng.below(vars + 1));
     let t = if rng.chance(1, 8) { rng.below(types::COUNT + 1) } else { rng.pick(types) };
     match kind {
@@ -38,6 +38,7 @@ pub fn likely(calls: u32, blocks: u32, vars: u32, types: &[u32], rng: &mut Rng) 
         5 => [5, v, rng.below(calls + 1), b],
         6 => [6, v, b, rng.any()],
         16 => [16, b, rng.below(calls + 1), rng.below(3)],
+        17 => [17, v, rng.any(), rng.any()],
         12 if rng.chance(3, 4) => [11, b, 0, 0],
         _ => [kind, b, c, rng.any()],
     }

@@ -17,7 +17,7 @@ const fn part(name: &'static str, each: fn(Visit) -> bool) -> Part {
     Part { name, long: false, each }
 }
 
-pub const PARTS: [Part; 10] = [
+pub const PARTS: [Part; 11] = [
     part("one", one),
     part("two-uses", two_uses),
     part("two-definitions", two_definitions),
@@ -27,6 +27,7 @@ pub const PARTS: [Part; 10] = [
     part("carried", |visit| carried(visit, giving_branches)),
     part("carried-short", |visit| carried(visit, branches)),
     part("carried-edge", carried_edge),
+    part("marked", marked),
     Part { name: "three-long", long: true, each: three_long },
 ];
 
@@ -245,6 +246,18 @@ fn carried_edge(visit: Visit) -> bool {
         bag.push((vec![[16, 0, 0, 0]], 2));
         let end = [vec![[12, 0, 0, 0]], uses(&[1, 0])].concat();
         orders(&mut bag, &mut beginning(2, &[0]), &end, visit)
+    })
+}
+
+/// A mark, a definition and a use beside branches and seals.
+fn marked(visit: Visit) -> bool {
+    graphs(2, &choices(2, false)).iter().all(|graph| {
+        (0..4).all(|place| {
+            let (defined, used) = (place & 1, place >> 1);
+            let mut bag = [branches(graph), seals(2), definitions(&[defined]), once(used)].concat();
+            bag.push((vec![[17, 0, 0, 0]], 1));
+            orders(&mut bag, &mut beginning(2, &[defined]), &uses(&[0, 1]), visit)
+        })
     })
 }
 
