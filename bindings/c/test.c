@@ -131,8 +131,8 @@ int main(void) {
         expect(facts.step == 0 || (SANGVIREB_SORT_OF(cell) == SANGVIREB_SORT_ZERO && SANGVIREB_TYPE_OF(cell) == facts.step - 1),
                "the first of two steps stands directly before the zero, with its own type");
     }
-    sangvireb_type_facts none = sangvireb_type(SANGVIREB_TYPE_F64X2 + 1), far = sangvireb_type(UINT32_MAX);
-    expect(none.lanes == 0 && none.width == 0 && none.step == 0 && none.low == 0 && none.high == 0 && far.lanes == 0 && far.low == 0,
+    sangvireb_type_facts past = sangvireb_type(SANGVIREB_TYPE_F64X2 + 1), far = sangvireb_type(UINT32_MAX);
+    expect(past.lanes == 0 && past.width == 0 && past.step == 0 && past.low == 0 && past.high == 0 && far.lanes == 0 && far.low == 0,
            "a number that names no type has no lanes, no width and no bits");
 
     /* a loop that carries an index: block 1's own parameter 0 takes 1 from block 0 and 4 from itself, and the builder's parameter 3 stands behind it */
