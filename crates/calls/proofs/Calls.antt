@@ -76,6 +76,6 @@ only-zero : (n k : ℕ) → Not-up-to n k → k < suc n → k ≡ 0
 only-zero zero k o l = omega arith
 only-zero (suc n) k o l = only-zero n k (o .0) (omega (arith, o .1))
 
--- a kind that is none of the sixteen
-pub unknown : (g : Graph) (s : Form) (ds : List Done) (x y z k : ℕ) → Not-up-to 16 k → reply g s ds x y z k ≡ no 3
-unknown g s ds x y z k o = elim (below? k 17) [ inl l ↦ ap (reply g s ds x y z) (only-zero 16 k o l) | inr l ↦ rw (List·getD-eq-default _ _ l) ]
+-- a kind that is none of the seventeen
+pub unknown : (g : Graph) (s : Form) (ds : List Done) (x y z k : ℕ) → Not-up-to 17 k → reply g s ds x y z k ≡ no 3
+unknown g s ds x y z k o = elim (below? k 18) [ inl l ↦ ap (reply g s ds x y z) (only-zero 17 k o l) | inr l ↦ rw (List·getD-eq-default _ _ l) ]

@@ -94,6 +94,7 @@ pub fn one_call(
         14 => return connect::is_sealed(graph, c, x),
         15 => return declare::own_param(graph, form, c, x, y),
         16 => return declare::give_arg(graph, form, c, x, y, z),
+        17 => return declare::mark_var_needs_stack_map(graph, form, c, x),
         _ => return reply::refuse(UNKNOWN, c),
     }
 }

@@ -1,6 +1,6 @@
 -- What the functions over the form ask follows of each state that the cells show: every session keeps to the limits, and places a block once.
 -- Assumes nothing.
-use Prim.Native.Nat.{ℕ, suc, _<_}
+use Prim.Native.Nat.{ℕ, suc, _≤_, _<_}
 use mathlib.Core.Path.{_≡_, refl, ap, _∙_}
 use mathlib.Core.Logic.{inl, inr}
 use mathlib.Core.Option.{some}
@@ -13,7 +13,7 @@ use Rattle.entity.specs.Limits.{limits, value-room, param-room}
 use Rattle.entity.specs.Types.{type-count}
 use Rattle.definition.specs.Base.{has, _∷ʳ_}
 use Rattle.definition.specs.Form.{Form, caller, with-makes}
-use Rattle.definition.specs.Read.{make, place-block, set-params}
+use Rattle.definition.specs.Read.{write, make, place-block, set-params}
 use Rattle.definition.specs.Session.{State}
 use Rattle.meaning.specs.Path.{In}
 use Rattle.meaning.specs.Rooms.{Rooms}
@@ -27,7 +27,7 @@ use Rattle.meaning.proofs.Stored.{stored-of}
 use Rattle.layout.specs.declared.Counts.{Counts}
 use Rattle.layout.specs.Counts.{more}
 use Rattle.layout.specs.Layout.{Shows}
-use Rattle.form.specs.Can.{Cells, Can-make, Can-count, Has-value, Has-def, Can-place, Can-append, Has-param, Has-pending, Has-owns, Can-own, Has-args, Can-feed}
+use Rattle.form.specs.Can.{Cells, Can-make, Can-count, Has-value, Has-def, Has-defs, Can-place, Can-append, Has-param, Has-pending, Has-owns, Can-own, Has-args, Can-feed}
 use Rattle.reply.specs.Replies.{Showing}
 use Rattle.reply.proofs.Asked.{cells}
 use Rattle.declare.proofs.Owns.{begun, bare}
@@ -51,6 +51,13 @@ module _ {gl fl : List ℕ} {c : Counts} {t : State} (h : Showing gl fl c t) whe
   pub has-def : (v b : ℕ) → v < limits .variables → b < limits .blocks → Has-def fl v b (t .form)
   has-def v b lv lb = record { cells = cells h; var = lv; known = lb }
 
+  pub has-defs : (v n : ℕ) → v < limits .variables → n ≤ limits .blocks → Has-defs fl v n (t .form)
+  has-defs v n lv ln = record { cells = cells h; var = lv; known = ln }
+
+  -- a definition is stored, and its value can be recorded for stack maps
+  pub has-written : (v x b : ℕ) → x < t .form .next → {lent : List ℕ} → Cells lent (write v b x (t .form)) → Has-value lent x (write v b x (t .form))
+  has-written v x b l shown = record { cells = shown; there = l; room = rooms .values }
+
   -- a block that is not placed yet is one more than those that are
   unplaced : (b : ℕ) → b < limits .blocks → has b (t .form .placed) ≡ false → length (t .form .placed) < limits .blocks
   unplaced b lb e = pigeon some (limits .blocks) (b ∷ t .form .placed) ((λ i. false-true e (has-in b (t .form .placed) i)), h .sure .safe .ranged .logs .once) low
@@ -73,6 +80,7 @@ module _ {gl fl : List ℕ} {c : Counts} {t : State} (h : Showing gl fl c t) whe
       shows = record { cells = shown; next = h .leaves .form .next };
       room = make-room t (h .sure) room;
       fresh = h .sure .whole .inv .aliased .fresh (t .form .next) (omega arith);
+      unrecorded = h .sure .safe .ranged .unrecorded (t .form .next) (omega arith);
     }
 
   -- ---- caller's parameters and their arguments
@@ -96,6 +104,7 @@ module _ {gl fl : List ℕ} {c : Counts} {t : State} (h : Showing gl fl c t) whe
           shows = record { cells = shown; next = h .leaves .form .next };
           room = make-room t (h .sure) room;
           fresh = h .sure .whole .inv .aliased .fresh (t .form .next) (omega arith);
+          unrecorded = h .sure .safe .ranged .unrecorded (t .form .next) (omega arith);
         };
         known = lb;
         row = own-room t (h .sure) b (q .0) (q .1) few .1;

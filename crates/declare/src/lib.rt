@@ -1,5 +1,5 @@
-// The kinds of call that bring something in: blocks, variables, values, definitions, branches, a caller's parameters and their arguments. The checks of
-// docs/RULES.md in its order, then the change.
+// The kinds of call that bring something in: blocks, variables, values, definitions, branches, a caller's parameters and their arguments, a variable's mark.
+// The checks of docs/RULES.md in its order, then the change.
 ghost use mathlib.Core.Bool.{not, _||_};
 ghost use mathlib.Core.List.{List};
 ghost use mathlib.Core.Path.{_≡_};
@@ -9,7 +9,7 @@ ghost use Rattle.entity.specs.Limits.{limits};
 ghost use Rattle.entity.specs.Options.{value-of};
 ghost use Rattle.definition.specs.Base.{_=?_};
 ghost use Rattle.definition.specs.Form.{Graph, Form};
-ghost use Rattle.definition.specs.Session.{declare-block, declare-var, make-value, define, define-answer, new-branch, own-param, give-arg};
+ghost use Rattle.definition.specs.Session.{declare-block, declare-var, make-value, define, define-answer, new-branch, own-param, give-arg, mark-var};
 ghost use Rattle.graph.specs.Seen.{Graph-with, Seen};
 ghost use Rattle.form.specs.Can.{Ex, Has-pending};
 ghost use Rattle.reply.specs.Replies.{Some-state, Answers};
@@ -114,6 +114,7 @@ pub fn define(graph: &[u32], form: &mut [u32], c: Counts, x: u32, y: u32, z: u32
         return reply::refuse(reply::LATE, c);
     }
     form::record_def(form, Variable(x), Block(z), Value(y));
+    form::record_stack_map_binding(form, graph::is_marked(graph, Variable(x)), Value(y));
     reply::accept(y, c)
 }
 
@@ -224,4 +225,20 @@ pub fn give_arg(graph: &[u32], form: &mut [u32], c: Counts, x: u32, y: u32, z: u
     }
     form::append_argument(form, Branch(x), z, Value(y));
     reply::accept(n, c)
+}
+
+// Kind 17. Stack maps must have what the variable receives. It is marked before it has any definition, so that none is missed.
+pub fn mark_var_needs_stack_map(graph: &mut [u32], form: &[u32], c: Counts, x: u32) -> Reply
+    requires { ⌜ Some-state (now graph) (now form) c ⌝ }
+    ensures { λ r. ⌜ Answers (now (graph .entry)) (now (form .entry)) (now (graph .exit)) (now (form .entry)) c r (λ g s. mark-var g s x) ⌝ }
+{
+    if reply::no_var(graph, x) {
+        return reply::refuse(reply::ABSENT, c);
+    }
+    let n = graph::block_count(graph);
+    if form::is_defined(form, Variable(x), n) {
+        return reply::refuse(reply::DEFINED, c);
+    }
+    graph::mark_variable(graph, Variable(x));
+    reply::accept(x, c)
 }

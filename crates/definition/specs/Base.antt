@@ -38,6 +38,10 @@ put k a f j = if j =? k then a else f j
 abbrev pub put₂ {ℓ} : {A : Type ℓ} → ℕ → ℕ → A → (ℕ → ℕ → A) → ℕ → ℕ → A
 put₂ k l a f = put k (put l a (f k)) f
 
+abbrev pub is-some {ℓ} : {A : Type ℓ} → Option A → Bool
+is-some none = false
+is-some (some a) = true
+
 -- the first if it is there, else the second
 abbrev pub orElse {ℓ} : {A : Type ℓ} → Option A → Option A → Option A
 orElse (some a) b = some a

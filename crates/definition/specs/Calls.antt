@@ -9,13 +9,6 @@ use Rattle.definition.specs.Session.{Call}
 abbrev call : ℕ → ℕ → ℕ → ℕ → Call
 call k x y z = record { kind = k; x = x; y = y; z = z }
 
--- the numbers of the types I8 and I32
-abbrev pub i8 : ℕ
-i8 = 0
-
-abbrev pub i32 : ℕ
-i32 = 2
-
 abbrev pub declare-block : Block → Call
 declare-block b = call 1 b 0 0
 
@@ -63,6 +56,10 @@ own-param b type = call 15 b type 0
 -- x for the destination of p's branch at place i
 abbrev pub give-arg : Block → Value → ℕ → Call
 give-arg p x i = call 16 p x i
+
+-- stack maps must have what v receives
+abbrev pub mark-var : Variable → Call
+mark-var v = call 17 v 0 0
 
 -- n blocks
 abbrev pub blocks : ℕ → List Call

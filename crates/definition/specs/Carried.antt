@@ -4,9 +4,10 @@
 use Prim.Native.Nat.{ℕ}
 use mathlib.Core.Path.{_≡_, refl}
 use mathlib.Core.List.{List, [], _∷_, _++_, map}
+use Rattle.entity.specs.Types.{i8, i32, type-count}
 use Rattle.definition.specs.Session.{Call, session}
 use Rattle.definition.specs.Calls.{declare-var, make-value, define, define-answer, use-var, new-branch, new-dest, add-pred, drop-pred, seal, seal-all}
-use Rattle.definition.specs.Calls.{own-param, give-arg, blocks, sets, jumps, i8, i32}
+use Rattle.definition.specs.Calls.{own-param, give-arg, blocks, sets, jumps}
 use Rattle.definition.specs.Tables.{Tables, tables}
 
 pub cases : List (List Call)
@@ -27,8 +28,8 @@ cases =
     -- O. A parameter of one's own gets 6 for an absent block or type, then 17 where the block has a pending use, a declared predecessor or is sealed; once
     -- the predecessor is removed it is accepted.
     (
-    blocks 3 ++ declare-var 0 i32 ∷ own-param 3 i32 ∷ own-param 0 6 ∷ use-var 0 0 ∷ own-param 0 i32 ∷ own-param 1 i32 ∷ own-param 1 i8 ∷ []
-    ++ jumps 0 (1 ∷ []) ++ own-param 1 i32 ∷ own-param 0 6 ∷ drop-pred 1 0 ∷ own-param 1 i32 ∷ seal 2 ∷ own-param 2 i32 ∷ own-param 2 6 ∷ []
+    blocks 3 ++ declare-var 0 i32 ∷ own-param 3 i32 ∷ own-param 0 type-count ∷ use-var 0 0 ∷ own-param 0 i32 ∷ own-param 1 i32 ∷ own-param 1 i8 ∷ []
+    ++ jumps 0 (1 ∷ []) ++ own-param 1 i32 ∷ own-param 0 type-count ∷ drop-pred 1 0 ∷ own-param 1 i32 ∷ seal 2 ∷ own-param 2 i32 ∷ own-param 2 type-count ∷ []
     ) ∷
     -- P. An argument gets 6 for an absent branch, value or destination, then 11 where the branch is declared, then 18 where the target has no own parameter
     -- left, also where it has one of the builder's, and whatever the type, then 7 for another type.
@@ -60,7 +61,9 @@ expected =
           (0, 0) ∷ (0, 3) ∷ (0, 4) ∷ (0, 5) ∷ (0, 5) ∷ (0, 1) ∷ (0, 0) ∷ (0, 1) ∷ (0, 0) ∷ (0, 2) ∷ (0, 1) ∷ (0, 0) ∷ (0, 0) ∷ (0, 5) ∷
           []);
       types = (2 ∷ 2 ∷ []);
+      marks = (0 ∷ 0 ∷ []);
       values = ((3, 2, 1, 0) ∷ (0, 2, 0, 1) ∷ (0, 2, 0, 2) ∷ (1, 2, 1, 3) ∷ (0, 2, 1, 4) ∷ (0, 2, 1, 5) ∷ []);
+      recorded = (0 ∷ 0 ∷ 0 ∷ 0 ∷ 0 ∷ 0 ∷ []);
       params = ([] ∷ (0 ∷ 3 ∷ []) ∷ [] ∷ []);
       owns = (0 ∷ 1 ∷ 0 ∷ []);
       branches = ((((1, (1 ∷ 2 ∷ [])) ∷ []) ∷ []) ∷ (((1, (4 ∷ 5 ∷ [])) ∷ (2, []) ∷ []) ∷ []) ∷ [] ∷ []);
@@ -78,7 +81,9 @@ expected =
       answers = ((0, 0) ∷ (0, 1) ∷ (0, 0) ∷ (0, 0) ∷ (0, 1) ∷ (0, 1) ∷ (0, 0) ∷ (0, 0) ∷ (0, 1) ∷ (0, 2) ∷ (0, 3) ∷ (0, 3) ∷ (0, 1) ∷ (0, 0) ∷
           (0, 2) ∷ (0, 0) ∷ []);
       types = (2 ∷ []);
+      marks = (0 ∷ []);
       values = ((3, 2, 1, 0) ∷ (0, 2, 0, 1) ∷ (1, 2, 1, 2) ∷ (0, 2, 1, 3) ∷ []);
+      recorded = (0 ∷ 0 ∷ 0 ∷ 0 ∷ []);
       params = ([] ∷ (0 ∷ 2 ∷ []) ∷ []);
       owns = (0 ∷ 1 ∷ []);
       branches = ((((1, (1 ∷ [])) ∷ []) ∷ []) ∷ (((1, (3 ∷ [])) ∷ []) ∷ []) ∷ []);
@@ -96,7 +101,9 @@ expected =
       answers = ((0, 0) ∷ (0, 1) ∷ (0, 2) ∷ (0, 0) ∷ (6, 0) ∷ (6, 0) ∷ (0, 0) ∷ (17, 0) ∷ (0, 1) ∷ (0, 2) ∷ (0, 0) ∷ (0, 0) ∷ (0, 1) ∷ (17, 0) ∷
           (6, 0) ∷ (0, 0) ∷ (0, 3) ∷ (0, 0) ∷ (17, 0) ∷ (6, 0) ∷ []);
       types = (2 ∷ []);
+      marks = (0 ∷ []);
       values = ((1, 2, 0, 0) ∷ (3, 2, 1, 1) ∷ (3, 0, 1, 2) ∷ (3, 2, 1, 3) ∷ []);
+      recorded = (0 ∷ 0 ∷ 0 ∷ 0 ∷ []);
       params = ((0 ∷ []) ∷ (1 ∷ 2 ∷ 3 ∷ []) ∷ [] ∷ []);
       owns = (0 ∷ 3 ∷ 0 ∷ []);
       branches = ((((1, []) ∷ []) ∷ []) ∷ [] ∷ [] ∷ []);
@@ -115,7 +122,9 @@ expected =
           (6, 0) ∷ (6, 0) ∷ (6, 0) ∷ (7, 0) ∷ (0, 0) ∷ (7, 0) ∷ (0, 1) ∷ (18, 0) ∷ (18, 0) ∷ (18, 0) ∷ (18, 0) ∷ (0, 1) ∷ (11, 0) ∷ (6, 0) ∷
           (0, 0) ∷ (18, 0) ∷ (0, 5) ∷ (0, 0) ∷ []);
       types = (2 ∷ []);
+      marks = (0 ∷ []);
       values = ((3, 2, 1, 0) ∷ (3, 0, 1, 1) ∷ (1, 2, 3, 2) ∷ (0, 2, 2, 3) ∷ (0, 0, 2, 4) ∷ (3, 2, 2, 5) ∷ []);
+      recorded = (0 ∷ 0 ∷ 0 ∷ 0 ∷ 0 ∷ 0 ∷ []);
       params = ([] ∷ (0 ∷ 1 ∷ []) ∷ (5 ∷ []) ∷ (2 ∷ []) ∷ []);
       owns = (0 ∷ 2 ∷ 1 ∷ 0 ∷ []);
       branches = ((((1, (3 ∷ 1 ∷ [])) ∷ (2, (3 ∷ [])) ∷ (3, []) ∷ []) ∷ []) ∷ [] ∷ [] ∷ [] ∷ []);
@@ -133,7 +142,9 @@ expected =
       answers = ((0, 0) ∷ (0, 1) ∷ (0, 0) ∷ (0, 1) ∷ (0, 0) ∷ (0, 1) ∷ (0, 0) ∷ (0, 0) ∷ (0, 1) ∷ (20, 0) ∷ (20, 0) ∷ (7, 0) ∷ (6, 0) ∷ (6, 0) ∷
           (0, 0) ∷ (20, 0) ∷ (0, 0) ∷ []);
       types = (2 ∷ 0 ∷ []);
+      marks = (0 ∷ 0 ∷ []);
       values = ((0, 2, 0, 0) ∷ (1, 2, 0, 1) ∷ []);
+      recorded = (0 ∷ 0 ∷ []);
       params = ((1 ∷ []) ∷ [] ∷ []);
       owns = (0 ∷ 0 ∷ []);
       branches = ((((1, []) ∷ []) ∷ []) ∷ [] ∷ []);
@@ -150,7 +161,9 @@ expected =
       counts = (2 ∷ 1 ∷ 3 ∷ 2 ∷ 0 ∷ []);
       answers = ((0, 0) ∷ (0, 1) ∷ (0, 0) ∷ (0, 0) ∷ (0, 1) ∷ (0, 1) ∷ (0, 0) ∷ (0, 0) ∷ (0, 0) ∷ (0, 1) ∷ (0, 2) ∷ (0, 0) ∷ []);
       types = (2 ∷ []);
+      marks = (0 ∷ []);
       values = ((3, 2, 1, 0) ∷ (0, 2, 0, 1) ∷ (1, 2, 1, 1) ∷ []);
+      recorded = (0 ∷ 0 ∷ 0 ∷ []);
       params = ([] ∷ (0 ∷ []) ∷ []);
       owns = (0 ∷ 1 ∷ []);
       branches = ((((1, (1 ∷ [])) ∷ []) ∷ []) ∷ [] ∷ []);

@@ -9,3 +9,5 @@ pub mod Tables
 pub mod Starred
 pub mod Late
 pub mod Carried
+pub mod Marked
+pub mod Wide

@@ -1,4 +1,4 @@
--- The sixteen calls, with their refusals in order, and a session: the calls in turn.
+-- The seventeen calls, with their refusals in order, and a session: the calls in turn.
 -- Assumes nothing.
 use Prim.Native.Nat.{ℕ, zero, suc, _-_}
 use mathlib.Core.Bool.{Bool, true, false, not, _&&_, _||_}
@@ -7,10 +7,10 @@ use mathlib.Core.List.{List, [], _∷_, map}
 use lib.ListN.{length, getD}
 use Rattle.entity.specs.Limits.{limits}
 use Rattle.entity.specs.Types.{type-count}
-use Rattle.definition.specs.Base.{Block, Variable, Value, _=?_, _<?_, _≤?_, if_then_else_, put, put₂, _∷ʳ_, has, any, position, upFrom}
-use Rattle.definition.specs.Form.{Graph, Form, made, caller, graph, form, with-call, with-blocks, with-types, with-branch}
-use Rattle.definition.specs.Form.{with-dests, with-preds, with-sealed, with-declared, with-makes, with-owns, with-args}
-use Rattle.definition.specs.Read.{type-of, write, make, place-block, set-params, set-pending, read, depth, settle-pending}
+use Rattle.definition.specs.Base.{Block, Variable, Value, _=?_, _<?_, _≤?_, if_then_else_, put, put₂, is-some, _∷ʳ_, has, any, position, upFrom}
+use Rattle.definition.specs.Form.{Graph, Form, def, made, caller, graph, form, with-call, with-blocks, with-types, with-branch}
+use Rattle.definition.specs.Form.{with-dests, with-preds, with-sealed, with-declared, with-marks, with-makes, with-owns, with-args}
+use Rattle.definition.specs.Read.{type-of, write, record-binding, make, place-block, set-params, set-pending, read, depth, settle-pending}
 
 pub record Call : Type 0 where
   pub kind : ℕ
@@ -128,7 +128,7 @@ module _ (g : Graph) (s : Form) where
       refuse 6 when (no-var v || no-value x || no-block b) else
       refuse 7 when not (s .info x .type =? type-of g v) else
       refuse 20 when g .declared b else
-      ok x g (write v b x s)
+      ok x g (record-binding g v x (write v b x s))
 
   -- kind 5: the value is what an earlier accepted use answered
   abbrev pub define-answer : Variable → Block → Option Value → Reply
@@ -213,6 +213,13 @@ module _ (g : Graph) (s : Form) where
       refuse 7 when not (s .info x .type =? s .info (getD (s .params d) n 0) .type) else
       ok n g (with-args s (put₂ p i (s .args p i ∷ʳ x) (s .args)))
 
+  -- kind 17: stack maps must have what v receives; marked before it has any definition, so that none is missed
+  abbrev pub mark-var : Variable → Reply
+  mark-var v =
+      refuse 6 when no-var v else
+      refuse 19 when any (λ b. is-some (def s v b)) (upFrom 0 (g .blocks)) else
+      ok v (with-marks g (put v true (g .marks))) s
+
   -- the reply to a call of this kind, where ds were done before
   abbrev pub reply : List Done → ℕ → ℕ → ℕ → ℕ → Reply
   reply ds x y z kind = getD (
@@ -233,6 +240,7 @@ module _ (g : Graph) (s : Form) where
       ∷ is-sealed x  -- 14
       ∷ own-param x y  -- 15
       ∷ give-arg x y z  -- 16
+      ∷ mark-var x  -- 17
       ∷ []) kind (no 3)
 
 abbrev pub tick : Graph → Graph
@@ -253,8 +261,9 @@ run t (c ∷ cs) = run (step t c) cs
 -- no block, no variable, no value
 abbrev pub empty : State
 empty = record {
-  graph = graph 0 0 [] (λ b. false) (λ b. []) (λ b. []) (λ b. false) (λ b. false);
-  form = form 0 0 (λ x. record { sort = made; type = 0; home = 0 }) (λ x. x) (λ b. []) (λ b. 0) (λ p i. []) (λ b. []) (λ v b. none) (λ v b. none) [] [];
+  graph = graph 0 0 [] (λ b. false) (λ b. []) (λ b. []) (λ b. false) (λ b. false) (λ v. false);
+  form = form 0 0 (λ x. record { sort = made; type = 0; home = 0 }) (λ x. x) (λ b. []) (λ b. 0) (λ p i. []) (λ b. []) (λ v b. none) (λ v b. none) [] []
+      (λ x. false);
   done = [];
 }
 

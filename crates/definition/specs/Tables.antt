@@ -13,7 +13,9 @@ pub record Tables : Type 0 where
   pub counts : List ℕ  -- blocks, variables, values, made values, zeros
   pub answers : List (ℕ × ℕ)  -- code, number
   pub types : List ℕ  -- by variable
+  pub marks : List ℕ  -- by variable: is it marked for stack maps?
   pub values : List (ℕ × ℕ × ℕ × ℕ)  -- sort, type, block, alias target
+  pub recorded : List ℕ  -- by value: is it recorded for stack maps?
   pub params : List (List ℕ)  -- by block
   pub owns : List ℕ  -- by block: how many of these are the caller's
   pub branches : List (List (List (ℕ × List ℕ)))  -- by block: no branch, or one; each destination's block and arguments
@@ -56,7 +58,9 @@ module _ (g : Graph) (s : Form) where
     counts = g .blocks ∷ length (g .types) ∷ s .next ∷ s .makes ∷ length (s .zeros) ∷ [];
     answers = map (λ d. (d .code, d .number)) ds;
     types = g .types;
+    marks = map (λ v. bit (g .marks v)) (upFrom 0 (length (g .types)));
     values = map value-row (upFrom 0 (s .next));
+    recorded = map (λ x. bit (s .recorded x)) (upFrom 0 (s .next));
     params = map (s .params) bs;
     owns = map (s .owns) bs;
     branches = map (λ b. branch-row b (g .branch b)) bs;

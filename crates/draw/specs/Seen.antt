@@ -17,7 +17,7 @@ abbrev pub mark-table : ℕ
 mark-table = 2
 
 abbrev pub dest-table : ℕ
-dest-table = 5
+dest-table = 6
 
 abbrev pub param-table : ℕ
 param-table = 7

@@ -114,6 +114,16 @@ fn recorded(form: &[u32], i: usize, j: usize) -> usize {
     cell(form, layout::DEFS, j * BLOCKS + i)
 }
 
+// Is variable i marked for stack maps?
+pub fn is_marked(graph: &[u32], i: usize) -> bool {
+    raw(graph, layout::MARKS, i) != 0
+}
+
+// Is value i recorded for them?
+pub fn is_recorded(form: &[u32], i: usize) -> bool {
+    Described::is_marked(raw(form, layout::DESCRIBED, i))
+}
+
 // What each line tells, in the order of its numbers.
 pub fn counts(graph: &[u32], form: &[u32]) -> Numbers {
     Numbers {
@@ -148,10 +158,17 @@ pub fn value(form: &[u32], i: usize) -> Numbers {
     }
 }
 
-// Value i, its sort, and the bits of its type's unset value, which a zero holds.
+// Value i, its sort, and the bits of its type's unset value, which a zero holds: the low 64 and the high 64.
 pub fn bits(form: &[u32], i: usize) -> Numbers {
     let d = Described::from_cell(raw(form, layout::DESCRIBED, i));
-    three(i, wide(d.sort), Type::unset_bits_with(d.ty) as usize)
+    let bits = Type(d.ty).unset_bits();
+    Numbers {
+        a: i,
+        b: wide(d.sort),
+        c: bits.low as usize,
+        d: bits.high as usize,
+        e: 0,
+    }
 }
 
 // Destination j of block i: its place, and the block that it names.

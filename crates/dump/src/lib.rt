@@ -289,12 +289,52 @@ fn zeros(out: &mut [u8], n: usize, in_words: bool, form: &[u32]) -> usize {
     m
 }
 
+fn mark(out: &mut [u8], n: usize, in_words: bool, graph: &[u32], i: usize) -> usize {
+    if !cells::is_marked(graph, i) {
+        return n;
+    }
+    line(out, n, in_words, texts::MARK, one(i))
+}
+
+// The variables marked for stack maps. In words each has a line of its own.
+fn marks(out: &mut [u8], n: usize, in_words: bool, graph: &[u32]) -> usize {
+    let k = cells::variable_count(graph);
+    let mut m = line(out, n, in_words, texts::MARKS, one(0));
+    let mut i: usize = 0;
+    while i < k {
+        m = mark(out, m, in_words, graph, i);
+        i += 1;
+    }
+    line(out, m, in_words, texts::STOP, one(0))
+}
+
+fn record(out: &mut [u8], n: usize, in_words: bool, form: &[u32], i: usize) -> usize {
+    if !cells::is_recorded(form, i) {
+        return n;
+    }
+    line(out, n, in_words, texts::RECORD, one(i))
+}
+
+// The values recorded for them, likewise.
+fn records(out: &mut [u8], n: usize, in_words: bool, form: &[u32]) -> usize {
+    let k = cells::value_count(form);
+    let mut m = line(out, n, in_words, texts::RECORDS, one(0));
+    let mut i: usize = 0;
+    while i < k {
+        m = record(out, m, in_words, form, i);
+        i += 1;
+    }
+    line(out, m, in_words, texts::STOP, one(0))
+}
+
 // The tables, one after the other.
 fn tables(out: &mut [u8], n: usize, in_words: bool, graph: &[u32], form: &[u32]) -> usize {
     let mut m = values(out, n, in_words, form, texts::VALUE);
     m = values(out, m, in_words, form, texts::BITS);
     m = blocks(out, m, in_words, graph, form);
     m = zeros(out, m, in_words, form);
+    m = marks(out, m, in_words, graph);
+    m = records(out, m, in_words, form);
     list(
         out,
         m,

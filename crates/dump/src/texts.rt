@@ -47,6 +47,17 @@ pub const WITH: usize = 18;
 // The bits of a zero.
 pub const BITS: usize = 19;
 
+// Marked variables and recorded values: the line's start, an entry, the line's end. In words an entry is a line.
+pub const MARKS: usize = 20;
+
+pub const MARK: usize = 21;
+
+pub const RECORDS: usize = 22;
+
+pub const RECORD: usize = 23;
+
+pub const STOP: usize = 24;
+
 fn letters(out: &mut [u8], n: usize, which: usize, x: Numbers) -> usize {
     phrase(
         out,
@@ -71,6 +82,11 @@ END;
  0
 
 K 0 X;
+M
+ 0
+W
+ 0
+;
 ",
         which,
         x,
@@ -101,6 +117,11 @@ blocks in the order placed:
  v0
  with
 v0 holds bits X;
+
+variable 0 is marked for stack maps;
+
+v0 is recorded for stack maps;
+
 ",
         which,
         x,
@@ -141,13 +162,14 @@ pub fn asked(out: &mut [u8], n: usize, kind: usize, x: Numbers) -> usize {
  is block 1 sealed
  give block 1 a parameter of type T
  give v2 to destination 3 of the branch of block 1
+ mark variable 1 for stack maps
 ",
-        known(kind, 17),
+        known(kind, 18),
         x,
     )
 }
 
-// What it is answered, 4; kinds 1, 2, 4 and 7 answer what they were given.
+// What it is answered, 4; kinds 1, 2, 4, 7 and 17 answer what they were given.
 pub fn answered(out: &mut [u8], n: usize, kind: usize, x: Numbers) -> usize {
     phrase(
         out,
@@ -199,7 +221,7 @@ pub fn reason(out: &mut [u8], n: usize, code: usize, x: Numbers) -> usize {
 
 : refused (0), the block is sealed, has a predecessor or a pending variable
 : refused (0), the block can take no more of the caller's
-
+: refused (0), the variable has a definition already
 : refused (0), the block's branch was declared before
 ",
         known(code, 21),

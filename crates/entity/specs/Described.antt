@@ -1,6 +1,6 @@
--- What a value is, in one cell: its type in the lowest five bits, its sort in the next two, one that is kept for a mark, and its block above them.
+-- What a value is, in one cell: its type in the lowest five bits, its sort in the next two, its mark in one, and its block above them.
 -- Assumes nothing.
-use Prim.Native.Nat.{ℕ, _+_, _*_, _<_}
+use Prim.Native.Nat.{ℕ, _+_, _*_, _/_, _%_, _<_}
 use mathlib.Core.Path.{_≡_}
 use Rattle.entity.specs.Limits.{limits}
 use Rattle.entity.specs.declared.Described.{Described}
@@ -32,3 +32,10 @@ pub record Parts (cell : ℕ) (d : Described) : Type 0 where
   pub mark : ℕ
   pub small : mark < mark-room
   pub whole : cell ≡ packed (d .ty) (d .sort) mark (d .block .0)
+
+-- a cell's mark; and the cell of the same parts that is marked
+abbrev pub mark-of : ℕ → ℕ
+mark-of cell = cell / type-room / sort-room % mark-room
+
+abbrev pub with-mark : ℕ → ℕ
+with-mark cell = packed (cell % type-room) (cell / type-room % sort-room) 1 (cell / type-room / sort-room / mark-room)

@@ -18,13 +18,13 @@ abbrev pub row-cells : ℕ → ℕ
 row-cells n = suc n
 
 module _ (l : Limits) where
-  -- a variable causes at most one zero per block
+  -- a variable causes at most one zero per block, which is one row of the log
   abbrev pub zero-room : ℕ
   zero-room = l .blocks * l .variables
 
-  -- and at most one parameter per block
+  -- and three values: a parameter, and the zero in at most two steps
   abbrev pub value-room : ℕ
-  value-room = l .made + 2 * zero-room
+  value-room = l .made + 3 * zero-room
 
   -- variables pending in a block
   abbrev pub wait-room : ℕ
@@ -46,10 +46,10 @@ module _ (l : Limits) where
   abbrev pub result-room : ℕ
   result-room = suc (l .blocks * l .dests)
 
-  -- the graph's cells: block count; types; branch marks; sealed marks; declared marks; destinations; predecessors
+  -- the graph's cells: block count; types; branch marks; sealed marks; declared marks; variables' marks; destinations; predecessors
   abbrev pub graph-need : ℕ
   graph-need =
-      1 + row-cells (l .variables) + l .blocks + l .blocks + l .blocks
+      1 + row-cells (l .variables) + l .blocks + l .blocks + l .blocks + l .variables
       + l .blocks * row-cells (l .dests) + l .blocks * row-cells pred-room
 
   -- the form's cells: counts of values and of made ones; target and description of each value; blocks placed; the zeros' calls and blocks;

@@ -1,4 +1,5 @@
 pub mod Values
 pub mod Params
 pub mod Variables
+pub mod Defined
 pub mod Logs

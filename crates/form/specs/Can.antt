@@ -24,11 +24,12 @@ Ex P = (s : Form) × P s
 
 -- ---- values
 
--- there is room for the next value, and it is no alias yet
+-- there is room for the next value, and it is no alias yet, nor recorded for stack maps
 pub record Can-make (lent : List ℕ) (c : Counts) (s : Form) : Type 0 where
   pub shows : Shows lent c s
   pub room : s .next < value-room limits
   pub fresh : s .target (s .next) ≡ s .next
+  pub unrecorded : s .recorded (s .next) ≡ false
 
 -- the caller may make one more
 pub record Can-count (lent : List ℕ) (s : Form) : Type 0 where
@@ -96,6 +97,12 @@ pub record Has-def (lent : List ℕ) (v b : ℕ) (s : Form) : Type 0 where
   pub cells : Cells lent s
   pub var : v < limits .variables
   pub known : b < limits .blocks
+
+-- v's definitions in the first n blocks can be read
+pub record Has-defs (lent : List ℕ) (v n : ℕ) (s : Form) : Type 0 where
+  pub cells : Cells lent s
+  pub var : v < limits .variables
+  pub known : n ≤ limits .blocks
 
 -- One store has two meanings: b defines v as x; or, where b has no definition of its own, x stands for v where b begins.
 pub record Recorded (old new : List ℕ) (v b x : ℕ) : Type 0 where

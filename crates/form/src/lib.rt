@@ -6,15 +6,15 @@ ghost use Rattle.entity.specs.Described.{Fits, type-room};
 ghost use Rattle.entity.specs.Limits.{limits, value-room, wait-room};
 ghost use Rattle.entity.specs.Options.{value-of};
 ghost use Rattle.entity.specs.Types.{type-count};
-ghost use Rattle.definition.specs.Base.{put, put₂, _∷ʳ_, has, without};
-ghost use Rattle.definition.specs.Form.{Form, Sort, def, with-makes, with-target, with-owns, with-args};
-ghost use Rattle.definition.specs.Read.{make as made-of, set-params, wait, log-zero, place-block};
+ghost use Rattle.definition.specs.Base.{put, put₂, is-some, _∷ʳ_, has, any, upFrom, without};
+ghost use Rattle.definition.specs.Form.{Graph, Form, Sort, def, with-makes, with-target, with-owns, with-args};
+ghost use Rattle.definition.specs.Read.{make as made-of, set-params, wait, log-zero, place-block, record-binding};
 ghost use Rattle.definition.specs.Tables.{sort-number};
 ghost use Rattle.layout.specs.Counts.{more};
 ghost use Rattle.layout.specs.Layout.{Shows};
 ghost use Rattle.form.specs.Can.{Cells, Ex, Can-make, Can-count, Has-value, Can-append, Has-params, Has-param, Next-param};
 ghost use Rattle.form.specs.Can.{Has-owns, Can-own, Has-args, Can-feed};
-ghost use Rattle.form.specs.Can.{Has-def, Recorded, Can-wait, Has-pending, Lists, Taken, Can-log, Has-placed, Can-place};
+ghost use Rattle.form.specs.Can.{Has-def, Has-defs, Recorded, Can-wait, Has-pending, Lists, Taken, Can-log, Has-placed, Can-place};
 use entity::Block;
 use entity::Branch;
 use entity::Described;
@@ -184,6 +184,36 @@ pub fn record_def(form: &mut [u32], var: Variable, block: Block, val: Value)
     let v = var.0 as usize;
     let b = block.0 as usize;
     form[DEFS + (v * entity::BLOCKS as usize + b)] = val.0 + 1;
+}
+
+// Has the variable a definition in one of the first blocks?
+pub fn is_defined(form: &[u32], var: Variable, blocks: u32) -> bool
+    requires { ⌜ Ex (Has-defs (now form) (var .0) blocks) ⌝ }
+    ensures { λ r. ⌜ ((s : Form) → Has-defs (now (form .entry)) (var .0) blocks s
+        → r ≡ any (λ b. is-some (def s (var .0) b)) (upFrom 0 blocks)) ⌝ }
+{
+    let mut b: u32 = 0;
+    while b < blocks {
+        let here = definition(form, var, Block(b));
+        if let OptionValue::Some(val) = here {
+            return true;
+        }
+        b += 1;
+    }
+    false
+}
+
+// A variable receives the value: if the variable is marked, stack maps must have it.
+pub fn record_stack_map_binding(form: &mut [u32], marked: bool, val: Value)
+    requires { ⌜ Ex (Has-value (now form) (val .0)) ⌝ }
+    ensures { λ r. ⌜ ((g : Graph) → (v : ℕ) → marked ≡ g .marks v → (s : Form) → Has-value (now (form .entry)) (val .0) s
+        → s .info (val .0) .type < type-count → Cells (now (form .exit)) (record-binding g v (val .0) s)) ⌝ }
+{
+    if !marked {
+        return;
+    }
+    let i = val.0 as usize;
+    form[DESCRIBED + i] = Described::marked(form[DESCRIBED + i]);
 }
 
 // The variable is pending in the block. Its parameter, any x here, is not stored again: it is found by its place among the block's.

@@ -73,6 +73,9 @@ module _ {cells : List ℕ} {g : Graph} (s : Seen cells g) where
   pub declared-cell : (p : ℕ) → p < limits .blocks → getD cells (base graph-sizes 4 + p) 0 ≡ bit (g .declared p)
   declared-cell p lp = s .cells .at 4 p lp
 
+  pub marks-cell : (v : ℕ) → v < limits .variables → getD cells (base graph-sizes 5 + v) 0 ≡ bit (g .marks v)
+  marks-cell v lv = s .cells .at 5 v lv
+
   pub types-row : Row cells (base graph-sizes 1) type-row (g .types)
   types-row = row-of graph-sizes cells (graph-tables g) 1 (s .cells) (g .types) refl (omega (arith, s .bounds .vars))
 
@@ -97,7 +100,7 @@ module _ {cells : List ℕ} {g : Graph} (s : Seen cells g) where
     pub dests-row : Row cells a dest-row (g .dests p)
     dests-row =
         subst (λ (k : ℕ). Row cells k dest-row (g .dests p)) (sym e)
-        (row-among graph-sizes cells (graph-tables g) 5 (s .cells) dest-row (g .dests) p refl (omega arith) (omega (arith, s .bounds .dests p)))
+        (row-among graph-sizes cells (graph-tables g) 6 (s .cells) dest-row (g .dests) p refl (omega arith) (omega (arith, s .bounds .dests p)))
 
     pub dests-readable : Readable cells a
     dests-readable = row-readable cells a dest-row (g .dests p) dests-row (omega (arith, s .bounds .dests p))
@@ -106,7 +109,7 @@ module _ {cells : List ℕ} {g : Graph} (s : Seen cells g) where
     pub preds-row : Row cells a pred-row (g .preds b)
     preds-row =
         subst (λ (k : ℕ). Row cells k pred-row (g .preds b)) (sym e)
-        (row-among graph-sizes cells (graph-tables g) 6 (s .cells) pred-row (g .preds) b refl (omega arith) (omega (arith, preds-few b)))
+        (row-among graph-sizes cells (graph-tables g) 7 (s .cells) pred-row (g .preds) b refl (omega arith) (omega (arith, preds-few b)))
 
     pub preds-readable : Readable cells a
     preds-readable = row-readable cells a pred-row (g .preds b) preds-row (omega (arith, preds-few b))

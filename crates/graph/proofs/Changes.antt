@@ -8,7 +8,7 @@ use native.Mathlib.Omega.{arith}
 use lib.ListN.{length, set, getD}
 use Rattle.entity.specs.Limits.{limits}
 use Rattle.definition.specs.Base.{put, position, _∷ʳ_}
-use Rattle.definition.specs.Form.{Graph, with-blocks, with-types, with-branch, with-dests, with-preds, with-declared}
+use Rattle.definition.specs.Form.{Graph, with-blocks, with-types, with-branch, with-dests, with-preds, with-declared, with-marks}
 use Rattle.definition.specs.Session.{swap-out, mark-sealed}
 use Rattle.layout.specs.Cells.{base}
 use Rattle.layout.specs.Layout.{type-row, dest-row, pred-row, graph-sizes, graph-tables}
@@ -31,6 +31,9 @@ module _ {cells : List ℕ} {g : Graph} (s : Seen cells g) where
   pub block-sealed : (b : ℕ) → b < limits .blocks → Shown (set cells (base graph-sizes 3 + b) 1) (mark-sealed g b)
   block-sealed b lb = mark-set graph-sizes cells (graph-tables g) 3 (s .cells) (omega arith) (g .sealed) b refl lb
 
+  pub variable-marked : (v : ℕ) → v < limits .variables → Shown (set cells (base graph-sizes 5 + v) 1) (with-marks g (put v true (g .marks)))
+  variable-marked v lv = mark-set graph-sizes cells (graph-tables g) 5 (s .cells) (omega arith) (g .marks) v refl lv
+
 module _ {cells : List ℕ} {g : Graph} (s : Can-declare-variable cells g) where
   pub variable-room : Pushable cells (base graph-sizes 1)
   variable-room = row-pushable cells (base graph-sizes 1) type-row (g .types) (types-row (s .seen)) (omega (arith, s .room)) (omega (arith, s .room))
@@ -43,7 +46,7 @@ module _ {cells : List ℕ} {g : Graph} {a : ℕ} (p : ℕ) (s : Can-declare-des
   dest-room = row-pushable cells a dest-row (g .dests p) (dests-row (s .seen) p lp e) (omega (arith, s .room)) (omega (arith, s .room))
 
   pub dest-declared : (b : ℕ) → Shown (pushed cells a b) (with-dests g (put p (g .dests p ∷ʳ b) (g .dests)))
-  dest-declared b = rw e (rows-pushed graph-sizes cells (graph-tables g) 5 (s .seen .cells) (omega arith) dest-row (g .dests) p refl (omega arith) b (omega (arith, s .room)))
+  dest-declared b = rw e (rows-pushed graph-sizes cells (graph-tables g) 6 (s .seen .cells) (omega arith) dest-row (g .dests) p refl (omega arith) b (omega (arith, s .room)))
 
 module _ {cells : List ℕ} {g : Graph} {a : ℕ} (b : ℕ) (lb : b < limits .blocks) (e : a ≡ preds-start b) (p : ℕ) where
   module _ (s : Can-declare-predecessor cells b p g) (lp : p < limits .blocks) where
@@ -54,7 +57,7 @@ module _ {cells : List ℕ} {g : Graph} {a : ℕ} (b : ℕ) (lb : b < limits .bl
     predecessor-room = row-pushable cells a pred-row (g .preds b) (preds-row (s .seen) b lb e) (omega (arith, few)) (omega (arith, few))
 
     pushed-there : Shown (pushed cells a p) (with-preds g (put b (g .preds b ∷ʳ p) (g .preds)))
-    pushed-there = rw e (rows-pushed graph-sizes cells (graph-tables g) 6 (s .seen .cells) (omega arith) pred-row (g .preds) b refl (omega arith) p (omega (arith, few)))
+    pushed-there = rw e (rows-pushed graph-sizes cells (graph-tables g) 7 (s .seen .cells) (omega arith) pred-row (g .preds) b refl (omega arith) p (omega (arith, few)))
 
     pub predecessor-declared : Shown (set (pushed cells a p) (base graph-sizes 4 + p) 1) (with-declared (with-preds g (put b (g .preds b ∷ʳ p) (g .preds))) (put p true (g .declared)))
     predecessor-declared = mark-set graph-sizes (pushed cells a p) (graph-tables (with-preds g (put b (g .preds b ∷ʳ p) (g .preds)))) 4 pushed-there (omega arith) (g .declared) p refl lp
@@ -73,5 +76,5 @@ module _ {cells : List ℕ} {g : Graph} {a : ℕ} (b : ℕ) (lb : b < limits .bl
     pub predecessor-removed : Shown (swapped cells a k) (with-preds g (put b (swap-out p (g .preds b)) (g .preds)))
     predecessor-removed =
         rw (predecessor-place, e)
-        (rows-swapped graph-sizes cells (graph-tables g) 6 (s .seen .cells) (omega arith) pred-row (g .preds) b refl (omega arith) p
+        (rows-swapped graph-sizes cells (graph-tables g) 7 (s .seen .cells) (omega arith) pred-row (g .preds) b refl (omega arith) p
         (omega (arith, preds-few (s .seen) b)) (s .seen .sound .nodup b) (s .there))

@@ -45,7 +45,7 @@ pub record Can-remove-predecessor (lent : List ℕ) (b p : ℕ) (g : Graph) : Ty
 
 -- where the row of a branch's destinations starts, and that of a block's predecessors
 abbrev pub dests-start : ℕ → ℕ
-dests-start p = base graph-sizes 5 + p * dest-row
+dests-start p = base graph-sizes 6 + p * dest-row
 
 abbrev pub preds-start : ℕ → ℕ
-preds-start b = base graph-sizes 6 + b * pred-row
+preds-start b = base graph-sizes 7 + b * pred-row

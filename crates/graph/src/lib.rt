@@ -1,4 +1,5 @@
-// The graph in lent cells: blocks, variables' types, branches with their destinations, predecessors, marks of what is sealed or was declared.
+// The graph in lent cells: blocks, variables' types, branches with their destinations, predecessors, marks of what is sealed or was declared, and of the
+// variables that stack maps must have.
 // Every read and every change of those cells is here, so that what is above speaks of the definition's graph alone.
 ghost use mathlib.Core.Path.{_≡_};
 ghost use mathlib.Core.Bool.{true};
@@ -7,7 +8,7 @@ ghost use lib.ListN.{length, getD};
 ghost use Rattle.entity.specs.Limits.{limits, pred-room};
 ghost use Rattle.entity.specs.Options.{block-of};
 ghost use Rattle.definition.specs.Base.{put, has, position, _∷ʳ_};
-ghost use Rattle.definition.specs.Form.{Graph, with-blocks, with-types, with-branch, with-dests, with-preds, with-declared};
+ghost use Rattle.definition.specs.Form.{Graph, with-blocks, with-types, with-branch, with-dests, with-preds, with-declared, with-marks};
 ghost use Rattle.definition.specs.Read.{type-of, single};
 ghost use Rattle.definition.specs.Session.{swap-out, declared-anywhere, mark-sealed};
 ghost use Rattle.graph.specs.Seen.{Graph-with, Shown, Seen, dests-start, preds-start};
@@ -22,6 +23,7 @@ use layout::BLOCK_COUNT;
 use layout::BRANCHES;
 use layout::DECLARED;
 use layout::DESTS;
+use layout::MARKS;
 use layout::PREDS;
 use layout::SEALED;
 use layout::TYPES;
@@ -77,6 +79,16 @@ pub fn ever_declared(graph: &[u32], branch: Branch) -> bool
 {
     let p = branch.0 as usize;
     graph[DECLARED + p] != 0
+}
+
+// Must stack maps have what the variable receives?
+pub fn is_marked(graph: &[u32], var: Variable) -> bool
+    requires { ⌜ Graph-with (Seen (now graph)) ⌝ }
+    requires { ⌜ var .0 < limits .variables ⌝ }
+    ensures { λ r. ⌜ ((g : Graph) → Seen (now (graph .entry)) g → r ≡ g .marks (var .0)) ⌝ }
+{
+    let v = var.0 as usize;
+    graph[MARKS + v] != 0
 }
 
 // The cell of the count of a branch's destinations; they follow it.
@@ -212,6 +224,15 @@ pub fn declare_variable(graph: &mut [u32], ty: u32)
     ensures { λ r. ⌜ ((g : Graph) → Can-declare-variable (now (graph .entry)) g → Shown (now (graph .exit)) (with-types g (g .types ∷ʳ ty))) ⌝ }
 {
     rows::push(graph, TYPES, ty);
+}
+
+pub fn mark_variable(graph: &mut [u32], var: Variable)
+    requires { ⌜ Graph-with (Seen (now graph)) ⌝ }
+    requires { ⌜ var .0 < limits .variables ⌝ }
+    ensures { λ r. ⌜ ((g : Graph) → Seen (now (graph .entry)) g → Shown (now (graph .exit)) (with-marks g (put (var .0) true (g .marks)))) ⌝ }
+{
+    let v = var.0 as usize;
+    graph[MARKS + v] = 1;
 }
 
 pub fn declare_branch(graph: &mut [u32], block: Block)

@@ -3,13 +3,12 @@
 -- Assumes nothing.
 use Prim.Native.Nat.{ℕ, suc, _+_, _<_, _≤_}
 use mathlib.Core.Path.{_≡_, sym, ap, _∙_}
+use mathlib.Core.Logic.{_≢_}
 use mathlib.Core.Bool.{cond}
 use mathlib.Core.List.{List}
 use native.Mathlib.Omega.{arith}
 use lib.Dec.{ltb}
 use lib.ListN.{length, getD, set}
-use Rattle.definition.specs.Base.{put}
-use Rattle.meaning.proofs.Maps.{put-same, put-other}
 use Rattle.layout.specs.Cells.{Table, blank, base, Holds, upto}
 use Rattle.layout.proofs.Cells.{store}
 use Rattle.layout.proofs.Values.{upto-in, upto-more}
@@ -23,7 +22,8 @@ module _ (sizes l : List ℕ) (M : List Table) (t : ℕ) (h : Holds sizes l M) (
       store sizes l M t h n v (upto (suc n) f′) lt room (upto-in (suc n) f′ n (omega arith) ∙ on)
       (λ i _ d. upto-more n f f′ i (same i) d ∙ ap (λ (g : Table). g i) (sym is))
 
-  pub column-put : (x v : ℕ) → t < length M → x < n → n ≤ getD sizes t 0 → Holds sizes (set l (base sizes t + x) v) (set M t (upto n (put x v f)))
-  column-put x v lt below room =
-      store sizes l M t h x v (upto n (put x v f)) lt (omega arith) (upto-in n (put x v f) x below ∙ put-same x v f)
-      (λ i _ d. ap (λ (q : ℕ). cond (ltb i n) q 0) (put-other x v f i d) ∙ ap (λ (g : Table). g i) (sym is))
+  pub column-put : (f′ : Table) (x v : ℕ) → t < length M → x < n → n ≤ getD sizes t 0 → f′ x ≡ v → ((j : ℕ) → j ≢ x → f′ j ≡ f j)
+      → Holds sizes (set l (base sizes t + x) v) (set M t (upto n f′))
+  column-put f′ x v lt below room on same =
+      store sizes l M t h x v (upto n f′) lt (omega arith) (upto-in n f′ x below ∙ on)
+      (λ i _ d. ap (λ (q : ℕ). cond (ltb i n) q 0) (same i d) ∙ ap (λ (g : Table). g i) (sym is))

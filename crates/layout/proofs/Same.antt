@@ -12,8 +12,8 @@ use lib.ListN.{length, getD, length-map}
 use lib.Seq.{ext-getD}
 use Rattle.entity.specs.Limits.{limits, value-room, row-cells}
 use Rattle.entity.specs.Types.{type-count}
-use Rattle.entity.specs.Described.{type-room, sort-room}
-use Rattle.entity.proofs.Packing.{packed-type, packed-sort, packed-block}
+use Rattle.entity.specs.Described.{type-room, sort-room, mark-room}
+use Rattle.entity.proofs.Packing.{packed-type, packed-sort, packed-mark, packed-block}
 use Rattle.definition.specs.Form.{Graph, Form, Info, Sort, made, param, nought, caller, def}
 use Rattle.definition.specs.Session.{Call, session, bit}
 use Rattle.meaning.specs.Rooms.{Rooms}
@@ -82,16 +82,33 @@ info-same a b e f h =
     ap (λ (k : Sort). record { sort = k; type = a .type; home = a .home }) e ∙ ap (λ (k : ℕ). record { sort = b .sort; type = k; home = a .home }) f
     ∙ ap (λ (k : ℕ). record { sort = b .sort; type = b .type; home = k }) h
 
-described-same : (a b : Info) → a .type < type-count → b .type < type-count → described a ≡ described b → a ≡ b
-described-same a b la lb e =
-    let m = sort-number (a .sort) in
-    let n = sort-number (b .sort) in
-    let t : a .type < type-room = omega arith in
-    let u : b .type < type-room = omega arith in
-    info-same a b
-    (sort-same (a .sort) (b .sort) (packed-sort (a .type) m 0 (a .home) (b .type) n 0 (b .home) t u e (sort-small (a .sort)) (sort-small (b .sort))))
-    (packed-type (a .type) m 0 (a .home) (b .type) n 0 (b .home) t u e)
-    (packed-block (a .type) m 0 (a .home) (b .type) n 0 (b .home) t u e (sort-small (a .sort)) (sort-small (b .sort)) (omega arith) (omega arith))
+pub bit-small : (m : Bool) → bit m < mark-room
+bit-small true = omega arith
+bit-small false = omega arith
+
+module _ (a b : Info) (la : a .type < type-count) (lb : b .type < type-count) (m n : Bool) (e : described a m ≡ described b n) where
+  abbrev j : ℕ
+  j = sort-number (a .sort)
+
+  abbrev k : ℕ
+  k = sort-number (b .sort)
+
+  t : a .type < type-room
+  t = omega arith
+
+  u : b .type < type-room
+  u = omega arith
+
+  described-same : a ≡ b
+  described-same =
+      info-same a b
+      (sort-same (a .sort) (b .sort) (packed-sort (a .type) j (bit m) (a .home) (b .type) k (bit n) (b .home) t u e (sort-small (a .sort)) (sort-small (b .sort))))
+      (packed-type (a .type) j (bit m) (a .home) (b .type) k (bit n) (b .home) t u e)
+      (packed-block (a .type) j (bit m) (a .home) (b .type) k (bit n) (b .home) t u e (sort-small (a .sort)) (sort-small (b .sort)) (bit-small m) (bit-small n))
+
+  marks-same : m ≡ n
+  marks-same =
+      bit-same m n (packed-mark (a .type) j (bit m) (a .home) (b .type) k (bit n) (b .home) t u e (sort-small (a .sort)) (sort-small (b .sort)) (bit-small m) (bit-small n))
 
 abbrev first : ℕ × ℕ → ℕ
 first w = w .0
@@ -125,8 +142,9 @@ module _ (g g′ : Graph) (s s′ : Form) (R : Rooms g s) (R′ : Rooms g′ s�
         branch = λ b lt. bit-same (g .branch b) (g′ .branch b) (at 2 b lt);
         sealed = λ b lt. bit-same (g .sealed b) (g′ .sealed b) (at 3 b lt);
         declared = λ b lt. bit-same (g .declared b) (g′ .declared b) (at 4 b lt);
-        dests = λ b lt. rows-same (limits .blocks) dest-row (g .dests) (g′ .dests) b lt (omega (arith, R .dests b)) (omega (arith, R′ .dests b)) (at 5);
-        preds = λ b lt. rows-same (limits .blocks) pred-row (g .preds) (g′ .preds) b lt (omega (arith, R .preds b)) (omega (arith, R′ .preds b)) (at 6);
+        marks = λ v lt. bit-same (g .marks v) (g′ .marks v) (at 5 v lt);
+        dests = λ b lt. rows-same (limits .blocks) dest-row (g .dests) (g′ .dests) b lt (omega (arith, R .dests b)) (omega (arith, R′ .dests b)) (at 6);
+        preds = λ b lt. rows-same (limits .blocks) pred-row (g .preds) (g′ .preds) b lt (omega (arith, R .preds b)) (omega (arith, R′ .preds b)) (at 7);
       }
 
   pub same-form : Stored g s → Stored g′ s′ → render-form s ≡ render-form s′ → Same-form s s′
@@ -135,8 +153,8 @@ module _ (g g′ : Graph) (s s′ : Form) (R : Rooms g s) (R′ : Rooms g′ s�
         next = next;
         makes = at 1 0 (omega arith);
         target = λ x lt. column (s .target) (s′ .target) x lt (at 2);
-        info = λ x lt. described-same (s .info x) (s′ .info x) (S .info x lt .1) (S′ .info x (omega (arith, next)) .1)
-            (column (λ x. described (s .info x)) (λ x. described (s′ .info x)) x lt (at 3));
+        info = λ x lt. described-same (s .info x) (s′ .info x) (S .info x lt .1) (typed x lt) (s .recorded x) (s′ .recorded x) (cells x lt);
+        recorded = λ x lt. marks-same (s .info x) (s′ .info x) (S .info x lt .1) (typed x lt) (s .recorded x) (s′ .recorded x) (cells x lt);
         placed = cell-same pred-row (s .placed) (s′ .placed) (omega (arith, R .placed)) (omega (arith, R′ .placed)) (at 4);
         zeros = pairs-same (s .zeros) (s′ .zeros)
             (cell-same zero-row (firsts (s .zeros)) (firsts (s′ .zeros)) (omega (arith, R .zeros, length-map (s .zeros) first)) (omega (arith, R′ .zeros, length-map (s′ .zeros) first)) (at 5))
@@ -162,6 +180,12 @@ module _ (g g′ : Graph) (s s′ : Form) (R : Rooms g s) (R′ : Rooms g′ s�
 
       column : (f f′ : Table) (x : ℕ) → x < s .next → ((j : ℕ) → j < value-room limits → upto (s .next) f j ≡ upto (s′ .next) f′ j) → f x ≡ f′ x
       column f f′ x lt e = sym (upto-in (s .next) f x lt) ∙ e x (omega (arith, R .values)) ∙ upto-in (s′ .next) f′ x (omega (arith, next))
+
+      typed : (x : ℕ) → x < s .next → s′ .info x .type < type-count
+      typed x lt = S′ .info x (omega (arith, next)) .1
+
+      cells : (x : ℕ) → x < s .next → described (s .info x) (s .recorded x) ≡ described (s′ .info x) (s′ .recorded x)
+      cells x lt = column (λ y. described (s .info y) (s .recorded y)) (λ y. described (s′ .info y) (s′ .recorded y)) x lt (at 3)
 
 -- two sessions that leave the same cells have the same tables
 pub same-sessions : (cs ds : List Call) → render-graph (session cs .graph) ≡ render-graph (session ds .graph) → render-form (session cs .form) ≡ render-form (session ds .form)

@@ -39,7 +39,7 @@ module _ (l : List ℕ) where
   zeros-hold sizes M z long cleared = record { long = long; at = λ t j lt. cleared (base sizes t + j) (within sizes t j lt) ∙ sym (zero-at M z t j) }
 
   pub zeros-graph : sum graph-sizes ≤ length l → ((i : ℕ) → i < sum graph-sizes → getD l i 0 ≡ 0) → Holds graph-sizes l (graph-tables (empty .graph))
-  zeros-graph = zeros-hold graph-sizes (graph-tables (empty .graph)) (nothing & no-entry & nothing & nothing & nothing & no-row dest-row & no-row pred-row & end)
+  zeros-graph = zeros-hold graph-sizes (graph-tables (empty .graph)) (nothing & no-entry & nothing & nothing & nothing & nothing & no-row dest-row & no-row pred-row & end)
 
   pub zeros-form : sum form-sizes ≤ length l → ((i : ℕ) → i < sum form-sizes → getD l i 0 ≡ 0) → Holds form-sizes l (form-tables (empty .form))
   zeros-form =

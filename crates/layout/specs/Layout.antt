@@ -2,6 +2,7 @@
 -- Assumes nothing.
 use Prim.Native.Nat.{ℕ, suc, _+_, _*_, _/_, _%_, _≤_, _<_}
 use mathlib.Core.Path.{_≡_, refl}
+use mathlib.Core.Bool.{Bool}
 use mathlib.Core.List.{List, [], _∷_, map, reverse}
 use lib.ListN.{length, getD}
 use Rattle.entity.specs.Limits.{limits, row-cells, zero-room, value-room, wait-room, param-room, pred-room, call-room, result-room}
@@ -40,7 +41,9 @@ abbrev pub wait-row : ℕ
 wait-row = row-cells (wait-room limits)
 
 abbrev pub graph-sizes : List ℕ
-graph-sizes = 1 ∷ type-row ∷ limits .blocks ∷ limits .blocks ∷ limits .blocks ∷ limits .blocks * dest-row ∷ limits .blocks * pred-row ∷ []
+graph-sizes =
+    1 ∷ type-row ∷ limits .blocks ∷ limits .blocks ∷ limits .blocks ∷ limits .variables
+    ∷ limits .blocks * dest-row ∷ limits .blocks * pred-row ∷ []
 
 abbrev pub graph-tables : Graph → List Table
 graph-tables g =
@@ -49,13 +52,14 @@ graph-tables g =
     ∷ (λ b. bit (g .branch b))  -- 2
     ∷ (λ b. bit (g .sealed b))  -- 3
     ∷ (λ b. bit (g .declared b))  -- 4
-    ∷ rows dest-row (g .dests)  -- 5
-    ∷ rows pred-row (g .preds)  -- 6
+    ∷ (λ v. bit (g .marks v))  -- 5
+    ∷ rows dest-row (g .dests)  -- 6
+    ∷ rows pred-row (g .preds)  -- 7
     ∷ []
 
--- what a value is, in one cell; no value is marked yet
-abbrev pub described : Info → ℕ
-described i = packed (i .type) (sort-number (i .sort)) 0 (i .home)
+-- what a value is, in one cell, and whether it is recorded for stack maps
+abbrev pub described : Info → Bool → ℕ
+described i m = packed (i .type) (sort-number (i .sort)) (bit m) (i .home)
 
 abbrev pub form-sizes : List ℕ
 form-sizes =
@@ -68,7 +72,7 @@ form-tables s =
     (λ i. s .next)  -- 0
     ∷ (λ i. s .makes)  -- 1
     ∷ upto (s .next) (s .target)  -- 2
-    ∷ upto (s .next) (λ x. described (s .info x))  -- 3
+    ∷ upto (s .next) (λ x. described (s .info x) (s .recorded x))  -- 3
     ∷ cell (s .placed)  -- 4
     ∷ cell (firsts (s .zeros))  -- 5: the calls
     ∷ cell (seconds (s .zeros))  -- 6: the blocks

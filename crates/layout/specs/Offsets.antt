@@ -16,14 +16,14 @@ starts sizes = map (base sizes) (upFrom 0 (suc (length sizes)))
 widths : type-row ∷ dest-row ∷ pred-row ∷ zero-row ∷ param-row ∷ wait-row ∷ [] ≡ 65 ∷ 9 ∷ 65 ∷ 4097 ∷ 129 ∷ 65 ∷ []
 widths = refl
 
--- blocks, types, branch marks, sealed marks, declared marks, destinations, predecessors
-graph-starts : starts graph-sizes ≡ 0 ∷ 1 ∷ 66 ∷ 130 ∷ 194 ∷ 258 ∷ 834 ∷ 4994 ∷ []
+-- blocks, types, branch marks, sealed marks, declared marks, variables' marks, destinations, predecessors
+graph-starts : starts graph-sizes ≡ 0 ∷ 1 ∷ 66 ∷ 130 ∷ 194 ∷ 258 ∷ 322 ∷ 898 ∷ 5058 ∷ []
 graph-starts = refl
 
 -- values, made values, target, description, placed, zero calls, zero blocks, parameters, caller's parameters, pending variables,
 -- last definitions, arguments
 form-starts : starts form-sizes
-    ≡ 0 ∷ 1 ∷ 2 ∷ 12290 ∷ 24578 ∷ 24643 ∷ 28740 ∷ 32837 ∷ 41093 ∷ 41157 ∷ 45317 ∷ 49413 ∷ 115461 ∷ []
+    ≡ 0 ∷ 1 ∷ 2 ∷ 16386 ∷ 32770 ∷ 32835 ∷ 36932 ∷ 41029 ∷ 49285 ∷ 49349 ∷ 53509 ∷ 57605 ∷ 123653 ∷ []
 form-starts = refl
 
 -- scheduled calls' values, their blocks, results

@@ -12,6 +12,7 @@ pub record Same-graph (g g′ : Graph) : Type 0 where
   pub branch : (b : ℕ) → b < limits .blocks → g .branch b ≡ g′ .branch b
   pub sealed : (b : ℕ) → b < limits .blocks → g .sealed b ≡ g′ .sealed b
   pub declared : (b : ℕ) → b < limits .blocks → g .declared b ≡ g′ .declared b
+  pub marks : (v : ℕ) → v < limits .variables → g .marks v ≡ g′ .marks v
   pub dests : (b : ℕ) → b < limits .blocks → g .dests b ≡ g′ .dests b
   pub preds : (b : ℕ) → b < limits .blocks → g .preds b ≡ g′ .preds b
 
@@ -20,6 +21,7 @@ pub record Same-form (s s′ : Form) : Type 0 where
   pub makes : s .makes ≡ s′ .makes
   pub target : (x : ℕ) → x < s .next → s .target x ≡ s′ .target x
   pub info : (x : ℕ) → x < s .next → s .info x ≡ s′ .info x
+  pub recorded : (x : ℕ) → x < s .next → s .recorded x ≡ s′ .recorded x
   pub placed : s .placed ≡ s′ .placed
   pub zeros : s .zeros ≡ s′ .zeros
   pub params : (b : ℕ) → b < limits .blocks → s .params b ≡ s′ .params b

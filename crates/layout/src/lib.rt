@@ -20,7 +20,9 @@ pub const SEALED: usize = BRANCHES + entity::BLOCKS as usize;
 
 pub const DECLARED: usize = SEALED + entity::BLOCKS as usize;
 
-pub const DESTS: usize = DECLARED + entity::BLOCKS as usize;
+pub const MARKS: usize = DECLARED + entity::BLOCKS as usize;
+
+pub const DESTS: usize = MARKS + entity::VARIABLES as usize;
 
 pub const PREDS: usize = DESTS + entity::BLOCKS as usize * entity::DEST_ROW;
 
@@ -57,7 +59,7 @@ pub const CALL_BLOCKS: usize = CALL_VALUES + entity::CALL_ROOM;
 pub const RESULTS: usize = CALL_BLOCKS + entity::CALL_ROOM;
 
 // The starts for a host, and last the need. Their contracts hold each constant above to the sizes that the specs work out.
-pub fn graph_starts() -> [usize; 8]
+pub fn graph_starts() -> [usize; 9]
     ensures { λ r. ⌜ r ≡ starts graph-sizes ⌝ }
 {
     [
@@ -66,6 +68,7 @@ pub fn graph_starts() -> [usize; 8]
         BRANCHES,
         SEALED,
         DECLARED,
+        MARKS,
         DESTS,
         PREDS,
         entity::GRAPH_NEED,

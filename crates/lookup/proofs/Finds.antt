@@ -13,18 +13,19 @@ use Rattle.entity.specs.declared.Value.{Value}
 use Rattle.entity.specs.Limits.{limits, value-room}
 use Rattle.entity.specs.Options.{value-of}
 use Rattle.entity.specs.Described.{type-room}
+use Rattle.entity.specs.Types.{type-count}
 use Rattle.definition.specs.Base.{_∷ʳ_}
-use Rattle.definition.specs.Form.{Graph, Form, Sort, param, def}
-use Rattle.definition.specs.Read.{make, set-params, mark-one, new-param, wait}
+use Rattle.definition.specs.Form.{Graph, Form, Info, Sort, param, def}
+use Rattle.definition.specs.Read.{make, set-params, mark-one, record-binding, new-param, wait}
 use Rattle.definition.specs.Tables.{sort-number}
 use Rattle.meaning.specs.Machine.{Task, conf, schedule, open-param, find}
-use Rattle.meaning.proofs.Maps.{or-none}
+use Rattle.meaning.proofs.Maps.{put-same, or-none}
 use Rattle.meaning.proofs.Reading.{Walked, walked}
 use Rattle.layout.specs.declared.Counts.{Counts}
 use Rattle.layout.specs.Counts.{more, one-result}
 use Rattle.layout.specs.Layout.{Shows, Stacks, Shown}
 use Rattle.graph.specs.Seen.{Seen}
-use Rattle.form.specs.Can.{Cells, Can-append, Has-def, Recorded, Can-wait}
+use Rattle.form.specs.Can.{Cells, Can-append, Has-value, Has-def, Recorded, Can-wait}
 use Rattle.work.specs.Work.{Can-answer}
 use Rattle.lookup.specs.declared.Stop.{Stop}
 use Rattle.lookup.specs.declared.Found.{Found}
@@ -86,7 +87,7 @@ module _ {gl fl wl : List ℕ} {c : Counts} {v ty b : ℕ} {g : Graph} {s : Form
         open-there = H .ready .opens blk (subst (λ (k : ℕ). k < g .blocks) (sym (S .block)) (walks .low)) lacks-there
 
         pub append-can : Can-append fl c blk s
-        append-can = record { make = record { shows = H .shows; room = open-there .next; fresh = H .ready .fresh }; known = block-low; row = open-there .params }
+        append-can = record { make = record { shows = H .shows; room = open-there .next; fresh = H .ready .fresh; unrecorded = H .ready .unrecorded }; known = block-low; row = open-there .params }
 
         pub value-small : c .values < value-room limits
         value-small = omega (arith, H .shows .next, open-there .next)
@@ -112,42 +113,59 @@ module _ {gl fl wl : List ℕ} {c : Counts} {v ty b : ℕ} {g : Graph} {s : Form
           answer-can-after = record { stacks = stacked; room = H .ready .results }
 
           module _ {fl₂ : List ℕ} (R : Recorded fl₁ fl₂ v blk (c .values)) where
-            made : Cells fl₂ (new-param g v blk s)
-            made =
-                subst (λ (t : ℕ). Cells fl₂ (mark-one v (s .next) blk (appended t))) (H .type)
-                (subst (λ (x : ℕ). Cells fl₂ (mark-one v x blk (appended ty))) (H .shows .next) (R .entry (appended ty) record-has (or-none (s .own v blk) (s .entry v blk) lacks-there .0)))
+            pub binding-has : Has-value fl₂ (c .values) (mark-one v (c .values) blk (set-params blk (s .params blk ∷ʳ s .next) (make param ty blk s)))
+            binding-has = record {
+              cells = R .entry (appended ty) record-has (or-none (s .own v blk) (s .entry v blk) lacks-there .0);
+              there = omega (arith, H .shows .next);
+              room = open-there .next;
+            }
 
-            pub wait-can : Can-wait fl₂ blk (new-param g v blk s)
+            typed : appended ty .info (c .values) .type < type-count
+            typed =
+                let new : Info = record { sort = param; type = ty; home = blk } in
+                let e : appended ty .info (c .values) .type ≡ ty = ap (λ (x : ℕ). appended ty .info x .type) (H .shows .next) ∙ ap (λ (i : Info). i .type) (put-same (s .next) new (s .info)) in
+                omega (arith, e, H .type, H .seen .bounds .typed v (H .var))
+
+          module _ {fl₂ : List ℕ} (R : Recorded fl₁ fl₂ v blk (c .values)) {m : Bool} (M : (g : Graph) → Seen gl g → m ≡ g .marks v) {fl₃ : List ℕ}
+              (K : (g : Graph) → (v : ℕ) → m ≡ g .marks v → (s : Form) → Has-value fl₂ (c .values) s → s .info (c .values) .type < type-count
+              → Cells fl₃ (record-binding g v (c .values) s)) where
+            made : Cells fl₃ (new-param g v blk s)
+            made =
+                subst (λ (t : ℕ). Cells fl₃ (record-binding g v (s .next) (mark-one v (s .next) blk (appended t)))) (H .type)
+                (subst (λ (x : ℕ). Cells fl₃ (record-binding g v x (mark-one v x blk (appended ty)))) (H .shows .next)
+                (K g v (M g (H .seen)) (mark-one v (c .values) blk (appended ty)) (binding-has R) (typed R)))
+
+            pub wait-can : Can-wait fl₃ blk (new-param g v blk s)
             wait-can = record { cells = made; known = block-low; row = open-there .waits }
 
-            finds-none : {fl₃ wl₁ : List ℕ} {r : Found} {q : Bool} → ((g : Graph) → Seen gl g → q ≡ g .sealed blk) → r .1 .0 ≡ blk → r .0 .0 ≡ c .values → r .2 .call ≡ d .call
-                → Shown fl₃ wl₁ (r .2) (open-param g v blk (s .next) [] ts rs (new-param g v blk s) q) → Finds fl₃ wl₁ (c .call) r v b g s ts rs
-            finds-none {fl₃} {wl₁} {r} shut ef ev ec sh = record {
+            finds-none : {fl₄ wl₁ : List ℕ} {r : Found} {q : Bool} → ((g : Graph) → Seen gl g → q ≡ g .sealed blk) → r .1 .0 ≡ blk → r .0 .0 ≡ c .values → r .2 .call ≡ d .call
+                → Shown fl₄ wl₁ (r .2) (open-param g v blk (s .next) [] ts rs (new-param g v blk s) q) → Finds fl₄ wl₁ (c .call) r v b g s ts rs
+            finds-none {fl₄} {wl₁} {r} shut ef ev ec sh = record {
               from = ef ∙ S .block;
               val = ev ∙ H .shows .next ∙ ap (found s) (sym none-met);
               call = ec ∙ ap (λ (k : Counts). k .call) (A .0);
-              shown = subst (λ (o : Option ℕ). Shown fl₃ wl₁ (r .2) (find g v ts rs s [] (whole-walk g v b s .end) o)) (sym none-met)
-                  (subst (λ (k : ℕ). Shown fl₃ wl₁ (r .2) (open-param g v k (s .next) [] ts rs (new-param g v k s) (g .sealed k))) (S .block)
-                  (subst (λ (y : Bool). Shown fl₃ wl₁ (r .2) (open-param g v blk (s .next) [] ts rs (new-param g v blk s) y)) (shut g (H .seen)) sh));
+              shown = subst (λ (o : Option ℕ). Shown fl₄ wl₁ (r .2) (find g v ts rs s [] (whole-walk g v b s .end) o)) (sym none-met)
+                  (subst (λ (k : ℕ). Shown fl₄ wl₁ (r .2) (open-param g v k (s .next) [] ts rs (new-param g v k s) (g .sealed k))) (S .block)
+                  (subst (λ (y : Bool). Shown fl₄ wl₁ (r .2) (open-param g v blk (s .next) [] ts rs (new-param g v blk s) y)) (shut g (H .seen)) sh));
             }
 
             module _ {q : Bool} (shut : (g : Graph) → Seen gl g → q ≡ g .sealed blk) where
               pub finds-sealed : q ≡ true → {wl₁ : List ℕ} {r : Found} → r .1 .0 ≡ blk → r .0 .0 ≡ c .values
                   → (r .2 .values ≡ d .values) × (r .2 .call ≡ d .call)
                   × ((g : Graph) → (ts : List Task) → (rs : List ℕ) → Can-begin gl wl d (c .values) blk g ts rs → Stacks wl₁ (r .2) (schedule g (c .values) blk ts) rs)
-                  → Finds fl₂ wl₁ (c .call) r v b g s ts rs
+                  → Finds fl₃ wl₁ (c .call) r v b g s ts rs
               finds-sealed e {wl₁} {r} ef ev B = finds-none shut ef ev (B .1)
                   (rw e (record {
                     form = record { cells = made; next = B .0 ∙ counted };
                     work = subst (λ (x : ℕ). Stacks wl₁ (r .2) (schedule g x blk ts) rs) (H .shows .next) (B .2 g ts rs begin-can);
                   }))
 
-              pub finds-open : q ≡ false → {fl₃ wl₁ : List ℕ} {r : Found} → r .1 .0 ≡ blk → r .0 .0 ≡ c .values
-                  → ((s : Form) → Can-wait fl₂ blk s → (x : ℕ) → Cells fl₃ (wait v blk x s))
+              pub finds-open : q ≡ false → {fl₄ wl₁ : List ℕ} {r : Found} → r .1 .0 ≡ blk → r .0 .0 ≡ c .values
+                  → ((s : Form) → Can-wait fl₃ blk s → (x : ℕ) → Cells fl₄ (wait v blk x s))
                   → (r .2 ≡ one-result d) × ((ts : List Task) → (rs : List ℕ) → Can-answer wl d ts rs → Stacks wl₁ (one-result d) ts (c .values ∷ rs))
-                  → Finds fl₃ wl₁ (c .call) r v b g s ts rs
-              finds-open e {fl₃} {wl₁} {r} ef ev Q P = finds-none shut ef ev (ap (λ (k : Counts). k .call) (P .0))
-                  (rw e (subst (λ (k : Counts). Shown fl₃ wl₁ k (conf ts (s .next ∷ rs) (wait v blk (s .next) (new-param g v blk s)))) (sym (P .0))
+                  → Finds fl₄ wl₁ (c .call) r v b g s ts rs
+              finds-open e {fl₄} {wl₁} {r} ef ev Q P = finds-none shut ef ev (ap (λ (k : Counts). k .call) (P .0))
+                  (rw e (subst (λ (k : Counts). Shown fl₄ wl₁ k (conf ts (s .next ∷ rs) (wait v blk (s .next) (new-param g v blk s)))) (sym (P .0))
                   (record {
                     form = record { cells = Q (new-param g v blk s) wait-can (s .next); next = counted };
                     work = subst (λ (x : ℕ). Stacks wl₁ (one-result d) ts (x ∷ rs)) (H .shows .next) (P .1 ts rs answer-can-after);

@@ -2,6 +2,7 @@
 -- Assumes nothing.
 use Prim.Native.Nat.{ℕ, _+_, _≤_, _<_}
 use mathlib.Core.Path.{_≡_}
+use mathlib.Core.Bool.{false}
 use mathlib.Core.Option.{Option, none, some}
 use mathlib.Core.List.{List, []}
 use lib.ListN.{length}
@@ -43,6 +44,7 @@ pub record Ready (g : Graph) (v : ℕ) (s : Form) (ts : List Task) (rs : List �
   pub opens : (d : ℕ) → d < g .blocks → def s v d ≡ none → Open g s ts d
   pub results : length rs < result-room limits
   pub fresh : s .target (s .next) ≡ s .next
+  pub unrecorded : s .recorded (s .next) ≡ false
   pub few : s .next ≤ value-room limits
   pub defs : (w d x : ℕ) → def s w d ≡ some x → x < s .next
 

@@ -135,6 +135,7 @@ fn find_var(
     let val = Value(c.values);
     let d = form::append_block_param(form, c, from, form::PARAM, ty);
     form::record_def(form, var, from, val);
+    form::record_stack_map_binding(form, graph::is_marked(graph, var), val);
     if graph::is_sealed(graph, from) {
         let e = begin_predecessors_lookup(graph, work, d, val, from);
         return Found(val, from, e);

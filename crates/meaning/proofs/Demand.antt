@@ -33,7 +33,8 @@ whole-tick E g s ds h = record {
   caller = h .caller;
   gifts = h .gifts;
   kp = h .kp;
-  inv = wider-inv g (frame E (h .caller)) s (h .kp) idle (h .inv) (suc (g .call)) (g .blocks) (g .types) (g .branch) (omega arith) (λ w l. (l, refl));
+  inv = wider-inv g (frame E (h .caller)) s (h .kp) idle (h .inv) (suc (g .call)) (g .blocks) (g .types) (g .branch) (g .marks) (omega arith)
+      (λ w l. (l, refl));
   sound = h .sound;
   hist = h .hist;
   own = h .own;

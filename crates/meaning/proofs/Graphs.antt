@@ -12,17 +12,17 @@ use native.Mathlib.Omega.{arith}
 use native.Mathlib.Nat.{le-trans}
 use Rattle.definition.specs.Form.{graph, with-dests, with-preds, with-declared, Graph, Form, def}
 use Rattle.definition.specs.Base.{put}
-use Rattle.definition.specs.Read.{write}
+use Rattle.definition.specs.Read.{write, record-binding}
 use Rattle.meaning.specs.Path.{In}
 use Rattle.meaning.proofs.Maps.{same?, put-at, put-other, put₂-other, false-true, bool?, ltb-yes, ltb-no}
 use Rattle.meaning.proofs.Facts.{Edge, same, kept}
 use Rattle.meaning.proofs.Inv.{Inv, Work, Frame, cut}
 
 module _ (g : Graph) (E : Frame) (s : Form) (kp : ℕ → List ℕ) (op : Work) (h : Inv g E s kp op) where
-  -- 1. more blocks and variables, another branch mark or call
-  module _ (c n : ℕ) (ty : List ℕ) (br : ℕ → Bool) (more : g .blocks ≤ n)
+  -- 1. more blocks and variables, other marks of branches and variables, another call
+  module _ (c n : ℕ) (ty : List ℕ) (br mk : ℕ → Bool) (more : g .blocks ≤ n)
       (typed : (w : ℕ) → w < length (g .types) → (w < length ty) × (getD ty w 0 ≡ getD (g .types) w 0)) where
-    pub wider-inv : Inv (graph c n ty br (g .dests) (g .preds) (g .sealed) (g .declared)) E s kp op
+    pub wider-inv : Inv (graph c n ty br (g .dests) (g .preds) (g .sealed) (g .declared) mk) E s kp op
     wider-inv = record {
       known = λ w b e q. let k = h .known w b e q in (typed w (k .0) .0, le-trans (k .1) more);
       edge = h .edge;
@@ -143,14 +143,14 @@ module _ (g : Graph) (E : Frame) (s : Form) (kp : ℕ → List ℕ) (op : Work) 
 
   -- 4. writing in a block that is declared nowhere
   module _ (v b x : ℕ) (nowhere : (c : ℕ) → In b (g .preds c) → ⊥) where
-    same-def : (w p c o : ℕ) → In p (g .preds c) → def s w p ≡ some o → def (write v b x s) w p ≡ some o
+    same-def : (w p c o : ℕ) → In p (g .preds c) → def s w p ≡ some o → def (record-binding g v x (write v b x s)) w p ≡ some o
     same-def w p c o i e = rw (put₂-other v b (some x) (s .own) w p (λ _ q. nowhere c (rw q at i))) e
 
-    rewrite : (w c e : ℕ) → Edge g (cut E) s kp w c e → Edge g (cut E) (write v b x s) kp w c e
+    rewrite : (w c e : ℕ) → Edge g (cut E) s kp w c e → Edge g (cut E) (record-binding g v x (write v b x s)) kp w c e
     rewrite w c e (same z f) = same z (λ p ip. let o = f p ip in (o .0, same-def w p c (o .0) ip (o .1), o .2))
     rewrite w c e (kept z r y f) = kept z r y (λ p ip. let o = f p ip in (o .0, same-def w p c (o .0) ip (o .1), o .2))
 
-    pub write-inv : Inv g E (write v b x s) kp op
+    pub write-inv : Inv g E (record-binding g v x (write v b x s)) kp op
     write-inv = record {
       known = h .known;
       edge = λ ok w c e q. ⊎-map (λ i. i) (rewrite w c e) (h .edge ok w c e q);

@@ -2,6 +2,7 @@
 pub mod Theorems
 -- tests, maps, lists, sums
 pub mod Maps
+pub mod Emit
 pub mod Lists
 pub mod Sums
 -- demand 3: the invariant of reading, what each call does to it, what it means on a path
@@ -51,3 +52,7 @@ pub mod Holds
 pub mod Brought
 pub mod Turns
 pub mod Answers
+-- stack maps: which values are recorded, and that marks change nothing else
+pub mod Binding
+pub mod Unmarked
+pub mod Marks

@@ -3,7 +3,7 @@ use Prim.Native.Nat.{ℕ, _<_, _≤_}
 use mathlib.Core.Option.{Option·some-injective, Option, some, none, Option·none-ne-some}
 use mathlib.Core.Path.{fun-ext, _≡_, refl, sym, ap, _∙_, subst}
 use mathlib.Core.Logic.{_≢_, _⊎_, inl, inr}
-use mathlib.Core.Bool.{Bool, true, false, not, _||_, _&&_}
+use mathlib.Core.Bool.{Bool, true, false, cond, not, _||_, _&&_}
 use lib.Dec.{lt→ltb, ltb→lt, eqb, T, eqb→eq, eqb-refl, ltb, leb, nleb→lt, nltb→le}
 use native.Mathlib.Omega.{arith}
 use Rattle.definition.specs.Base.{put, put₂, orElse}
@@ -76,6 +76,22 @@ module _ {ℓ} {A : Type ℓ} where
     | inl q ↦ put-at k a (put k b f) j q ∙ sym (put-at k a f j q)
     | inr n ↦ put-other k a (put k b f) j n ∙ put-other k b f j n ∙ sym (put-other k a f j n)
   ])
+
+-- recording the value x, where z says whether its variable is marked
+pub bind-other : (z : Bool) (x : ℕ) (r : ℕ → Bool) (y : ℕ) → y ≢ x → cond {A = ℕ → Bool} z (put x true r) r y ≡ r y
+bind-other true x r y n = put-other x true r y n
+bind-other false x r y n = refl
+
+pub bind-at : (z : Bool) (x : ℕ) (r : ℕ → Bool) → z ≡ true → cond {A = ℕ → Bool} z (put x true r) r x ≡ true
+bind-at z x r e = rw e (put-same x true r)
+
+pub bind-still : (z : Bool) (x : ℕ) (r : ℕ → Bool) (y : ℕ) → r y ≡ true → cond {A = ℕ → Bool} z (put x true r) r y ≡ true
+bind-still false x r y e = e
+bind-still true x r y e = elim (same? y x) [ inl q ↦ put-at x true r y q | inr n ↦ put-other x true r y n ∙ e ]
+
+pub bind-is : (z : Bool) (x : ℕ) (r : ℕ → Bool) (y : ℕ) → cond {A = ℕ → Bool} z (put x true r) r y ≡ true → (r y ≡ true) ⊎ ((z ≡ true) × (y ≡ x))
+bind-is false x r y e = inl e
+bind-is true x r y e = elim (same? y x) [ inl q ↦ inr (refl, q) | inr n ↦ inl (sym (put-other x true r y n) ∙ e) ]
 
 -- maps of two keys
 module _ {A : Type 0} where

@@ -96,6 +96,7 @@ module _ (g : Graph) (G : Sound g) (B : Bounds g) (b : ℕ) (lb : b < g .blocks)
     from = B .from;
     branches = B .branches;
     shut = λ c z. elim (same? c b) [ inl q ↦ rw q lb | inr n ↦ B .shut c (sym (put-other b true (g .sealed) c n) ∙ z) ];
+    marked = B .marked;
   }
 
   -- the mark alone: what waited is at work
@@ -113,6 +114,7 @@ module _ (g : Graph) (G : Sound g) (B : Bounds g) (b : ℕ) (lb : b < g .blocks)
         | inl q ↦ put-at b [] (s .pending) c q
         | inr n ↦ put-other b [] (s .pending) c n ∙ h .ranged .still c (sym (put-other b true (g .sealed) c n) ∙ z)
       ];
+      unrecorded = h .ranged .unrecorded;
     };
     load =
         let w = waiting-put (s .pending) b [] (le-trans lb (B .few)) in

@@ -40,8 +40,10 @@ stored-of g G B op k s r = let h = r .inv in let R = r .ranged in record {
   sealed = B .shut;
   settled = R .still;
   types = B .typed;
+  marks = B .marked;
   targets = R .valued .closed;
   unused = h .aliased .fresh;
+  unrecorded = R .unrecorded;
   info = λ x l. (R .valued .homes x l, R .valued .types x l);
   zeros = R .logs .noted;
   placed = R .logs .within;

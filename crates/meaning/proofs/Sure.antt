@@ -1,4 +1,4 @@
--- What holds after every list of calls, with no supposition: each of the sixteen kinds of call keeps it. Assumes nothing.
+-- What holds after every list of calls, with no supposition: each of the seventeen kinds of call keeps it. Assumes nothing.
 use Prim.Native.Nat.{ℕ, zero, suc, _<_, _≤_}
 use mathlib.Core.Path.{_≡_, refl, sym, _∙_}
 use mathlib.Core.Logic.{_⊎_, inl, inr}
@@ -11,12 +11,12 @@ use native.Mathlib.Omega.{arith}
 use native.Mathlib.Nat.{le-trans, not-suc-le-zero}
 use Rattle.entity.specs.Types.{type-count}
 use Rattle.entity.specs.Limits.{limits}
-use Rattle.definition.specs.Base.{put, put₂, has, upFrom}
-use Rattle.definition.specs.Form.{Graph, Form, made, caller, with-args, with-makes, with-blocks, with-preds, with-declared, with-dests}
-use Rattle.definition.specs.Read.{type-of, write, make, place-block}
+use Rattle.definition.specs.Base.{put, put₂, is-some, has, any, upFrom}
+use Rattle.definition.specs.Form.{Graph, Form, def, made, caller, with-args, with-makes, with-blocks, with-preds, with-declared, with-marks, with-dests}
+use Rattle.definition.specs.Read.{type-of, write, record-binding, make, place-block}
 use Rattle.definition.specs.Session.{Call, Done, State, Reply, no, ok, refuse_when_else_, declared-anywhere, no-block, no-var, no-value, no-branch}
 use Rattle.definition.specs.Session.{declare-block, declare-var, make-value, define, use-var, new-branch, new-dest, add-pred, drop-pred, seal, seal-form}
-use Rattle.definition.specs.Session.{mark-sealed, seal-each, seal-all, define-answer, answered, own-param, give-arg, reply, tick, after, step, run, empty}
+use Rattle.definition.specs.Session.{mark-sealed, seal-each, seal-all, define-answer, answered, own-param, give-arg, mark-var, reply, tick, after, step, run, empty}
 use Rattle.definition.specs.Session.{session}
 use Rattle.meaning.specs.Path.{In}
 use Rattle.meaning.proofs.Maps.{same?, put-other, put-at, eqb-eq, false-true, some-none, ltb-no, leb-no, or-no, not-no, and-both, some-inj}
@@ -101,6 +101,7 @@ module _ (g : Graph) (s : Form) (ds : List Done) (w : Whole ⊥ g s ds) (h : Saf
               from = h .bounds .from;
               branches = λ p e. le-trans (h .bounds .branches p e) up;
               shut = λ b e. le-trans (h .bounds .shut b e) up;
+              marked = h .bounds .marked;
             }
 
             r′ : Ranged (with-blocks g (suc x)) s
@@ -128,6 +129,7 @@ module _ (g : Graph) (s : Form) (ds : List Done) (w : Whole ⊥ g s ds) (h : Saf
           from = h .bounds .from;
           branches = h .bounds .branches;
           shut = h .bounds .shut;
+          marked = λ v e. omega (arith, h .bounds .marked v e, more);
         })
         (wider-ranged g s (h .ranged) _ (omega arith) (omega (arith, more)) (omega arith) (λ b. refl)) (h .load) (later-refl s)
 
@@ -145,12 +147,33 @@ module _ (g : Graph) (s : Form) (ds : List Done) (w : Whole ⊥ g s ds) (h : Saf
         check 20 (g .declared b) _ λ _.
         let p = or-no (no-var g s v || no-value g s x) (no-block g s b) e₆ in
         let o = or-no (no-var g s v) (no-value g s x) (p .0) in
-        keep x g (write v b x s) refl (h .bounds) (write-ranged g s (h .ranged) v b x (leb-no (length (g .types)) v (o .0)) (leb-no (g .blocks) b (p .1)) (leb-no (s .next) x (o .1)))
-        (load-same s (write v b x s) (write-somes s v b x) refl 0 refl refl refl (h .load)) (later-refl s)
+        let t = record-binding g v x (write v b x s) in
+        keep x g t refl (h .bounds) (write-ranged g s (h .ranged) v b x (leb-no (length (g .types)) v (o .0)) (leb-no (g .blocks) b (p .1)) (leb-no (s .next) x (o .1)))
+        (load-same s t (write-somes s v b x) refl 0 refl refl refl (h .load)) (later-refl s)
 
     keep-define-at : (v b : ℕ) (o : Option ℕ) → Keep (define-answer g s v b o)
     keep-define-at v b none = tt
     keep-define-at v b (some x) = keep-define v x b
+
+    keep-mark : (v : ℕ) → Keep (mark-var g s v)
+    keep-mark v = check 6 (no-var g s v) _ λ e₆. check 19 (any (λ b. is-some (def s v b)) (upFrom 0 (g .blocks))) _ λ _.
+        let g′ = with-marks g (put v true (g .marks)) in
+        keep v g′ s refl
+        (record {
+          few = h .bounds .few;
+          vars = h .bounds .vars;
+          typed = h .bounds .typed;
+          dests = h .bounds .dests;
+          aims = h .bounds .aims;
+          from = h .bounds .from;
+          branches = h .bounds .branches;
+          shut = h .bounds .shut;
+          marked = λ w e. elim (same? w v) [
+            | inl q ↦ rw q (leb-no (length (g .types)) v e₆)
+            | inr n ↦ h .bounds .marked w (sym (put-other v true (g .marks) w n) ∙ e)
+          ];
+        })
+        (wider-ranged g s (h .ranged) g′ (omega arith) (omega arith) (omega arith) (λ b. refl)) (h .load) (later-refl s)
 
     keep-branch : (b : ℕ) → Keep (new-branch g s b)
     keep-branch b = check 6 (no-block g s b) _ λ e₆. check 9 (g .branch b) _ λ _.
@@ -165,6 +188,7 @@ module _ (g : Graph) (s : Form) (ds : List Done) (w : Whole ⊥ g s ds) (h : Saf
           from = λ p d i. elim (same? p b) [ inl q ↦ put-at b true (g .branch) p q | inr n ↦ put-other b true (g .branch) p n ∙ h .bounds .from p d i ];
           branches = λ p e. elim (same? p b) [ inl q ↦ rw q lb | inr n ↦ h .bounds .branches p (sym (put-other b true (g .branch) p n) ∙ e) ];
           shut = h .bounds .shut;
+          marked = h .bounds .marked;
         })
         (wider-ranged g (place-block b s) (place-ranged g s (h .ranged) b lb) _ (omega arith) (omega arith) (omega arith) (λ d. refl)) (load-placed b)
         (later-refl s)
@@ -191,6 +215,7 @@ module _ (g : Graph) (s : Form) (ds : List Done) (w : Whole ⊥ g s ds) (h : Saf
           from = λ q d i. elim (put-in d p ds (g .dests) q i) [ inl k ↦ rw (k .0) br | inr j ↦ h .bounds .from q d j ];
           branches = h .bounds .branches;
           shut = h .bounds .shut;
+          marked = h .bounds .marked;
         })
         (wider-ranged g s (h .ranged) _ (omega arith) (omega arith) (omega arith) (λ d. refl)) (h .load) (later-refl s)
 
@@ -256,7 +281,7 @@ module _ (g : Graph) (s : Form) (ds : List Done) (w : Whole ⊥ g s ds) (h : Saf
       let r = read-rest g (w .sound) (h .bounds) v lv b s (leb-no (g .blocks) b (o .1)) rest in
       record { safe = record { bounds = h .bounds; ranged = r .0 .ranged; load = r .0 .load }; later = r .2; answer = λ _. r .1; calls = refl }
 
-  -- the sixteen kinds
+  -- the seventeen kinds
   pub kept : (k : ℕ) → c .kind ≡ k → Keep (reply g s ds (c .x) (c .y) (c .z) k)
   kept zero e = tt
   kept (suc zero) e = keep-block (λ q. omega (arith, e, q)) (c .x)
@@ -276,7 +301,8 @@ module _ (g : Graph) (s : Form) (ds : List Done) (w : Whole ⊥ g s ds) (h : Saf
   kept (suc (suc (suc (suc (suc (suc (suc (suc (suc (suc (suc (suc (suc (suc (suc zero))))))))))))))) e = keep-own (λ q. omega (arith, e, q)) (c .x) (c .y)
   kept (suc (suc (suc (suc (suc (suc (suc (suc (suc (suc (suc (suc (suc (suc (suc (suc zero)))))))))))))))) e =
       keep-give (λ q. omega (arith, e, q)) (c .x) (c .y) (c .z)
-  kept (suc (suc (suc (suc (suc (suc (suc (suc (suc (suc (suc (suc (suc (suc (suc (suc (suc k))))))))))))))))) e = tt
+  kept (suc (suc (suc (suc (suc (suc (suc (suc (suc (suc (suc (suc (suc (suc (suc (suc (suc zero))))))))))))))))) e = keep-mark (λ q. omega (arith, e, q)) (c .x)
+  kept (suc (suc (suc (suc (suc (suc (suc (suc (suc (suc (suc (suc (suc (suc (suc (suc (suc (suc k)))))))))))))))))) e = tt
 
 -- after some calls
 pub record Sure (t : State) : Type 0 where
@@ -349,13 +375,15 @@ empty-sure = record {
       from = λ p b i. absurd i;
       branches = λ p e. absurd (false-true refl e);
       shut = λ b e. absurd (false-true refl e);
+      marked = λ v e. absurd (false-true refl e);
     };
     ranged = record {
       valued = record { closed = λ x l. absurd (not-suc-le-zero l); homes = λ x l. absurd (not-suc-le-zero l); types = λ x l. absurd (not-suc-le-zero l) };
       recorded = record { entries = λ w b e q. absurd (some-none q refl); owns = λ w b e q. absurd (some-none q refl); passed = λ p i a k. absurd k };
       logs = record { noted = λ z i. absurd i; once = tt; within = λ b i. absurd i };
-      caused = record { param-of = λ x l. absurd (not-suc-le-zero l); zero-of = λ z l. absurd (not-suc-le-zero l) };
+      caused = record { param-of = λ x l. absurd (not-suc-le-zero l); zero-of = λ z l. absurd (not-suc-le-zero l); step-before = λ z t l. absurd (not-suc-le-zero l) };
       still = λ b z. refl;
+      unrecorded = λ x l. refl;
     };
     load =
         let k = all-le (empty .form) in

@@ -2,10 +2,10 @@
 use Prim.Native.Nat.{ℕ, _+_, _<_, _≤_}
 use mathlib.Core.Path.{_≡_}
 use mathlib.Core.Bool.{true}
-use mathlib.Core.List.{List, _++_}
+use mathlib.Core.List.{List, _++_, map}
 use mathlib.Core.Option.{some}
 use lib.ListN.{length, getD}
-use Rattle.entity.specs.Types.{unset-with}
+use Rattle.entity.specs.Types.{unset-of}
 use Rattle.definition.specs.Session.{Call, session, seal-each, answered}
 use Rattle.definition.specs.Resolve.{Resolved, targets}
 use Rattle.definition.specs.Read.{resolve}
@@ -22,6 +22,7 @@ use Rattle.meaning.specs.Enough.{Enough}
 use Rattle.meaning.specs.Holds.{Holds}
 use Rattle.meaning.specs.Suppositions.{supposed?}
 use Rattle.meaning.specs.Needed.{Demand-3-but}
+use Rattle.meaning.specs.Marks.{Appended, Recorded-exactly, Zeros-given, Copies-not-added, Defs-recorded, Defs-recorded-in-turn, unmark, unmarked}
 use Rattle.meaning.proofs.Rooms.{fed-always, given-first, given-few, given-typed}
 use Rattle.meaning.proofs.Steady.{calls-count, logged}
 use Rattle.meaning.proofs.Turns.{scheduled, scheduled-all}
@@ -34,6 +35,8 @@ use Rattle.meaning.proofs.Suppositions.{supposed-sound, supposed-comple
 use Rattle.meaning.proofs.Needed.{needed}
 use Rattle.meaning.proofs.Timely.{timely}
 use Rattle.meaning.proofs.Brought.{brought}
+use Rattle.meaning.proofs.Marks.{exactly, one-appended, zeros-given, copies-not-added, recorded-stays, defs-recorded, defs-recorded-in-turn}
+use Rattle.meaning.proofs.Unmarked.{marks-silent}
 
 -- ---- demand 3
 
@@ -44,14 +47,14 @@ answers-hold = demand-3
 
 -- The same by bits: each answer holds the bits that its variable last received, or those of its type's unset value.
 pub answers-hold-by-bits : (cs : List Call) → Supposed (session cs) → Faithful-bits (session cs)
-answers-hold-by-bits cs S = answers-hold cs S .0 ℕ unset-with
+answers-hold-by-bits cs S = answers-hold cs S .0 ℕ unset-of
 
 -- So where its variable received nothing on the path, the answer holds `unset-of` the variable's type: 0x7FC0_0000 for F32, 0x7FF8_0000_0000_0000 for F64,
 -- 0 for an integer.
 pub unset-shows : (cs : List Call) → Supposed (session cs) → Unset-shows (session cs)
 unset-shows cs S = shows (session cs) (answers-hold-by-bits cs S)
 
--- In every session each zero and each variable has a known type, and these are the bits of that type's unset value.
+-- In every session each value of sort zero, a first step too, and each variable has a known type, and these are the bits of that type's unset value.
 pub zeros-have-bits : (cs : List Call) → Zeros-typed (session cs)
 zeros-have-bits = zeros-typed
 
@@ -116,7 +119,7 @@ callers-stay = still-caller
 pub values-stay : (cs ds : List Call) (x : ℕ) → x < session cs .form .next → session (cs ++ ds) .form .info x ≡ session cs .form .info x
 values-stay cs ds = from-then cs ds .info
 
--- A variable causes at most one parameter and one zero per block.
+-- A variable causes at most one parameter and one zero per block, the zero in at most two steps, of which the first stands directly before it.
 pub causes-once : (cs : List Call) → Once (session cs .graph) (session cs .form)
 causes-once cs = holds cs .once
 
@@ -148,6 +151,42 @@ pub arguments-typed : (cs : List Call) (p i j : ℕ) → let s = session cs .for
     j < length (given p i (session cs .done))
     → s .info (getD (s .args p i) j 0) .type ≡ s .info (getD (s .params (getD (session cs .graph .dests p) i 0)) j 0) .type
 arguments-typed = given-typed
+
+-- ---- stack maps
+
+-- A value is in the set exactly if a marked variable was given it by a definition, or had it appended as its parameter.
+pub recorded-exactly : (cs : List Call) → Recorded-exactly cs
+recorded-exactly = exactly
+
+-- No parameter is appended for two variables.
+pub appended-for-one : (cs : List Call) (v w x : ℕ) → Appended cs v x → Appended cs w x → v ≡ w
+appended-for-one = one-appended
+
+-- So a zero is in the set only if a definition gave it to a marked variable.
+pub zeros-not-recorded : (cs : List Call) → Zeros-given cs
+zeros-not-recorded = zeros-given
+
+-- And a call that is no definition adds no value that was there before it, as those are that a walk copies or that a parameter becomes an alias of.
+pub copies-not-recorded : (cs : List Call) (c : Call) → Copies-not-added cs c
+copies-not-recorded = copies-not-added
+
+-- What is in the set stays there.
+pub recorded-for-good : (cs ds : List Call) (x : ℕ) → session cs .form .recorded x ≡ true → session (cs ++ ds) .form .recorded x ≡ true
+recorded-for-good = recorded-stays
+
+-- What is recorded as a marked variable's definition, in any block, is in the set: what use_var_nonlocal asserts.
+pub definitions-recorded : (cs : List Call) → Defs-recorded (session cs .graph) (session cs .form)
+definitions-recorded = defs-recorded
+
+-- So it is at every moment of a use and of a seal, also in `seal_all_blocks`, once the blocks bs are sealed.
+pub definitions-recorded-in-turn : (cs : List Call) (bs : List ℕ)
+    → let r = seal-each bs (session cs .graph) (session cs .form) in Defs-recorded-in-turn (r .0) (r .1)
+definitions-recorded-in-turn = defs-recorded-in-turn
+
+-- Marks change nothing else: a session leaves what the same list leaves in which a call that does nothing stands for each mark, but for marks, the set and the
+-- answers of those calls.
+pub marks-change-nothing-else : (cs : List Call) → unmarked (session cs) ≡ session (map unmark cs)
+marks-change-nothing-else = marks-silent
 
 -- ---- calls and answers
 

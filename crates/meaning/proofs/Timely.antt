@@ -11,8 +11,8 @@ use lib.ListN.{length, getD}
 use native.Mathlib.Omega.{arith}
 use Rattle.entity.specs.Types.{type-count}
 use Rattle.entity.specs.Limits.{limits}
-use Rattle.definition.specs.Base.{put, has, upFrom}
-use Rattle.definition.specs.Form.{Graph, Form}
+use Rattle.definition.specs.Base.{put, has, any, is-some, upFrom}
+use Rattle.definition.specs.Form.{Graph, Form, def}
 use Rattle.definition.specs.Read.{type-of}
 use Rattle.definition.specs.Session.{Call, Done, State, Reply, no, ok, refuse_when_else_, declared-anywhere, no-block, no-var, no-value, no-branch}
 use Rattle.definition.specs.Session.{declare-block, declare-var, make-value, define, use-var, new-branch, new-dest, add-pred, drop-pred, seal, seal-form}
@@ -190,7 +190,10 @@ module _ (g : Graph) (s : Form) (ds : List Done) (c : Call) where
       check 6 (no-branch g s (c .x) || no-value g s (c .y) || leb (length (g .dests (c .x))) (c .z)) _ (omega arith) λ _.
       check 11 (declared-anywhere g (c .x)) _ (omega arith) λ _. check 18 (leb (s .owns d) n) _ (omega arith) λ _.
       check 7 (not (eqb (s .info (c .y) .type) (s .info (getD (s .params d) n 0) .type))) _ (omega arith) λ _. quiet (λ n p. rw e (refl, refl)) _ _ (λ p. refl)
-  marking (suc (suc (suc (suc (suc (suc (suc (suc (suc (suc (suc (suc (suc (suc (suc (suc (suc k))))))))))))))))) e = omega arith
+  marking (suc (suc (suc (suc (suc (suc (suc (suc (suc (suc (suc (suc (suc (suc (suc (suc (suc zero))))))))))))))))) e =
+      check 6 (no-var g s (c .x)) _ (omega arith) λ _. check 19 (any (λ b. is-some (def s (c .x) b)) (upFrom 0 (g .blocks))) _ (omega arith) λ _.
+      quiet (λ n p. rw e (refl, refl)) _ _ (λ p. refl)
+  marking (suc (suc (suc (suc (suc (suc (suc (suc (suc (suc (suc (suc (suc (suc (suc (suc (suc (suc k)))))))))))))))))) e = omega arith
 
   -- a refused call neither declares nor defines
   refused-none : (k p : ℕ) (b : Bool) → k ≢ 0 → (b && eqb k 0 ≡ true) → ⊥

@@ -1,4 +1,4 @@
--- Each call keeps the invariant of a session: by the sixteen kinds, of which most change one table. Assumes nothing.
+-- Each call keeps the invariant of a session: by the seventeen kinds, of which most change one table. Assumes nothing.
 use Prim.Native.Nat.{ℕ, zero, suc, _+_, _<_, _≤_}
 use mathlib.Core.Path.{_≡_, refl, sym, ap, _∙_, subst}
 use mathlib.Core.Logic.{_≢_, _⊎_, inl, inr}
@@ -11,12 +11,12 @@ use native.Mathlib.Omega.{arith}
 use native.Mathlib.Nat.{le-trans}
 use Rattle.entity.specs.Types.{type-count}
 use Rattle.entity.specs.Limits.{limits}
-use Rattle.definition.specs.Base.{put, put₂, orElse, has, any, upFrom}
-use Rattle.definition.specs.Form.{Graph, Form, Info, made, caller, with-makes, with-preds, with-declared, with-blocks, graph}
-use Rattle.definition.specs.Read.{type-of, write, make, place-block, read, depth}
+use Rattle.definition.specs.Base.{put, put₂, orElse, is-some, has, any, upFrom}
+use Rattle.definition.specs.Form.{Graph, Form, Info, def, made, caller, with-makes, with-preds, with-declared, with-blocks, graph}
+use Rattle.definition.specs.Read.{type-of, write, record-binding, make, place-block, read, depth}
 use Rattle.definition.specs.Session.{Call, Done, Reply, no, ok, refuse_when_else_, declared-anywhere, no-block, no-var, no-value, no-branch, declare-block}
 use Rattle.definition.specs.Session.{declare-var, make-value, define, use-var, new-branch, new-dest, add-pred, drop-pred, swap-out, but-last, last, seal}
-use Rattle.definition.specs.Session.{seal-form, mark-sealed, seal-each, seal-all, define-answer, answered, added, own-param, give-arg, reply}
+use Rattle.definition.specs.Session.{seal-form, mark-sealed, seal-each, seal-all, define-answer, answered, added, own-param, give-arg, mark-var, reply}
 use Rattle.meaning.specs.Path.{In, Act, makes, gives, uses, act, acts, if-so, gift, given}
 use Rattle.meaning.specs.Stored.{Nodup}
 use Rattle.meaning.proofs.Maps.{same?, put-same, put-other, put-at, eqb-same, eqb-diff, put₂-at, put₂-other, false-true, or-no, leb-no, ltb-no}
@@ -41,7 +41,7 @@ pub record Whole (E : Type 0) (g : Graph) (s : Form) (ds : List Done) : Type 0 w
   pub own : (b v : ℕ) → s .own v b ≡ cur (λ w. none) (acts b ds) v
   pub tells : (b : ℕ) → Tells s b (λ v. s .entry v b) [] (acts b ds)
 
-acts-snoc : (b : ℕ) (ds : List Done) (d : Done) → acts b (ds ++ d ∷ []) ≡ acts b ds ++ act b d
+pub acts-snoc : (b : ℕ) (ds : List Done) (d : Done) → acts b (ds ++ d ∷ []) ≡ acts b ds ++ act b d
 acts-snoc b ds d = acts-append b ds (d ∷ []) ∙ ap (λ (l : List Act). acts b ds ++ l) (append-nil (act b d))
 
 given-snoc : (p i : ℕ) (ds : List Done) (d : Done) → given p i (ds ++ d ∷ []) ≡ given p i ds ++ gift p i d
@@ -165,11 +165,11 @@ module _ (E : Type 0) (g : Graph) (s : Form) (ds : List Done) (h : Whole E g s d
   nothing q n = silent E g s ds h (said n) (q n .0) (q n .1) g s (h .kp) (h .inv) (h .sound) (h .hist) (grow-refl s)
 
   -- only the graph's counts and marks change, and perhaps the logs
-  wider-fine : Quiet → (n bl : ℕ) (ty : List ℕ) (br : ℕ → Bool) (s′ : Form) → Inv g F s′ (h .kp) idle → Grow s s′ → g .blocks ≤ bl
+  wider-fine : Quiet → (n bl : ℕ) (ty : List ℕ) (br mk : ℕ → Bool) (s′ : Form) → Inv g F s′ (h .kp) idle → Grow s s′ → g .blocks ≤ bl
       → ((w : ℕ) → w < length (g .types) → (w < length ty) × (getD ty w 0 ≡ getD (g .types) w 0))
-      → Fine (ok n (graph (g .call) bl ty br (g .dests) (g .preds) (g .sealed) (g .declared)) s′)
-  wider-fine q n bl ty br s′ i w more typed = silent E g s ds h (said n) (q n .0) (q n .1) _ s′ (h .kp)
-      (wider-inv g F s′ (h .kp) idle i (g .call) bl ty br more typed)
+      → Fine (ok n (graph (g .call) bl ty br (g .dests) (g .preds) (g .sealed) (g .declared) mk) s′)
+  wider-fine q n bl ty br mk s′ i w more typed = silent E g s ds h (said n) (q n .0) (q n .1) _ s′ (h .kp)
+      (wider-inv g F s′ (h .kp) idle i (g .call) bl ty br mk more typed)
       (record { range = λ b p k. le-trans (h .sound .range b p k) more; nodup = h .sound .nodup; inside = λ b p k. le-trans (h .sound .inside b p k) more; names = h .sound .names })
       (h .hist) w
 
@@ -184,19 +184,19 @@ module _ (E : Type 0) (g : Graph) (s : Form) (ds : List Done) (h : Whole E g s d
       λ e. by (eqb x 0) (ltb-no x (g .blocks) e)
     where
       by : (z : Bool) → g .blocks ≤ x → Fine (ok x (with-blocks g (suc x)) (cond z (place-block 0 s) s))
-      by true lo = wider-fine q x (suc x) (g .types) (g .branch) (place-block 0 s) (placed-inv 0) (grow-refl s) (omega arith) untyped
-      by false lo = wider-fine q x (suc x) (g .types) (g .branch) s (h .inv) (grow-refl s) (omega arith) untyped
+      by true lo = wider-fine q x (suc x) (g .types) (g .branch) (g .marks) (place-block 0 s) (placed-inv 0) (grow-refl s) (omega arith) untyped
+      by false lo = wider-fine q x (suc x) (g .types) (g .branch) (g .marks) s (h .inv) (grow-refl s) (omega arith) untyped
 
   fine-var : Quiet → (x y : ℕ) → Fine (declare-var g s x y)
   fine-var q x y =
       check 4 (leb (limits .variables) x) _ (omega arith) λ _. check 5 (ltb (length (g .types)) x) _ (omega arith) λ _. check 6 (leb type-count y) _ (omega arith) λ _.
       check 7 (ltb x (length (g .types)) && not (eqb y (type-of g x))) _ (omega arith) λ _. choose (ltb x (length (g .types))) _ _ (λ _. nothing q x) λ _.
-      wider-fine q x (g .blocks) (g .types ++ y ∷ []) (g .branch) s (h .inv) (grow-refl s) (omega arith)
+      wider-fine q x (g .blocks) (g .types ++ y ∷ []) (g .branch) (g .marks) s (h .inv) (grow-refl s) (omega arith)
       (λ w l. (omega (arith, l, length-append (g .types) (y ∷ [])), List·getD-append (g .types) (y ∷ []) 0 w l))
 
   fine-branch : Quiet → (b : ℕ) → Fine (new-branch g s b)
   fine-branch q b = check 6 (no-block g s b) _ (omega arith) λ _. check 9 (g .branch b) _ (omega arith) λ _.
-      wider-fine q b (g .blocks) (g .types) (put b true (g .branch)) (place-block b s) (placed-inv b) (grow-refl s) (omega arith) untyped
+      wider-fine q b (g .blocks) (g .types) (put b true (g .branch)) (g .marks) (place-block b s) (placed-inv b) (grow-refl s) (omega arith) untyped
 
   -- branch p is declared nowhere
   nowhere : (p : ℕ) → declared-anywhere g p ≡ false → (b : ℕ) → In p (g .preds b) → ⊥
@@ -318,7 +318,8 @@ module _ (E : Type 0) (g : Graph) (s : Form) (ds : List Done) (h : Whole E g s d
   fine-define v x b is mute =
       check 6 (no-var g s v || no-value g s x || no-block g s b) _ (omega arith) λ _. check 7 (not (eqb (s .info x .type) (type-of g v))) _ (omega arith) λ _.
       check 20 (g .declared b) _ (omega arith) λ e₂₀.
-      spoken x b (gives v x) (is x) (mute x) (write v b x s) (h .kp) (write-inv g F s (h .kp) idle (h .inv) v b x (λ c i. false-true e₂₀ (h .hist c b i)))
+      spoken x b (gives v x) (is x) (mute x) (record-binding g v x (write v b x s)) (h .kp)
+      (write-inv g F s (h .kp) idle (h .inv) v b x (λ c i. false-true e₂₀ (h .hist c b i)))
       (record { res = λ y z q. q; info = λ y l. refl; more = omega arith }) (λ c w e q. q)
       (λ w. elim (same? w v) [
         | inl q ↦ put₂-at v b (some x) (s .own) w b q refl ∙ sym (put-at v (some x) (cur (λ u. none) (acts b ds)) w q)
@@ -459,6 +460,12 @@ module _ (E : Type 0) (g : Graph) (s : Form) (ds : List Done) (h : Whole E g s d
             | inr u ↦ rw (eqb-diff p r (λ k. u (sym k))) refl
           ]
 
+  -- a variable's mark
+  fine-mark : Quiet → (v : ℕ) → Fine (mark-var g s v)
+  fine-mark q v =
+      check 6 (no-var g s v) _ (omega arith) λ _. check 19 (any (λ b. is-some (def s v b)) (upFrom 0 (g .blocks))) _ (omega arith) λ _.
+      wider-fine q v (g .blocks) (g .types) (g .branch) (put v true (g .marks)) s (h .inv) (grow-refl s) (omega arith) untyped
+
   -- the reply to the call of kind k
   pub fine : (k : ℕ) → c .kind ≡ k → Fine (reply g s ds (c .x) (c .y) (c .z) k)
   fine zero e = omega arith
@@ -482,4 +489,6 @@ module _ (E : Type 0) (g : Graph) (s : Form) (ds : List Done) (h : Whole E g s d
       (c .x) (c .y)
   fine (suc (suc (suc (suc (suc (suc (suc (suc (suc (suc (suc (suc (suc (suc (suc (suc zero)))))))))))))))) e =
       fine-give (λ n b. rw e refl) (c .x) (c .y) (c .z) (λ n p i. rw e refl)
-  fine (suc (suc (suc (suc (suc (suc (suc (suc (suc (suc (suc (suc (suc (suc (suc (suc (suc k))))))))))))))))) e = omega arith
+  fine (suc (suc (suc (suc (suc (suc (suc (suc (suc (suc (suc (suc (suc (suc (suc (suc (suc zero))))))))))))))))) e =
+      fine-mark (λ n. (λ b. rw e refl, λ p i. rw e refl)) (c .x)
+  fine (suc (suc (suc (suc (suc (suc (suc (suc (suc (suc (suc (suc (suc (suc (suc (suc (suc (suc k)))))))))))))))))) e = omega arith

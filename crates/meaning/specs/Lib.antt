@@ -12,3 +12,4 @@ pub mod Trace
 pub mod Suppositions
 pub mod Needed
 pub mod Answers
+pub mod Marks

@@ -1,7 +1,7 @@
 -- Every number that a table holds names something that is there. Assumes nothing.
 use Prim.Native.Nat.{ℕ, _<_, _≤_}
 use mathlib.Core.Path.{_≡_}
-use mathlib.Core.Bool.{true}
+use mathlib.Core.Bool.{true, false}
 use mathlib.Core.Option.{some}
 use mathlib.Core.List.{List, [], _∷_}
 use lib.ListN.{length}
@@ -32,11 +32,13 @@ pub record Stored (g : Graph) (s : Form) : Type 0 where
   -- nothing waits in a sealed block
   pub sealed : (b : Block) → g .sealed b ≡ true → b < g .blocks
   pub settled : (b : Block) → g .sealed b ≡ true → s .pending b ≡ []
-  -- the types of the variables
+  -- the types of the variables, and which are marked
   pub types : (v : Variable) → v < length (g .types) → type-of g v < type-count
-  -- values: their targets, what they are; past them nothing is an alias
+  pub marks : (v : Variable) → g .marks v ≡ true → v < length (g .types)
+  -- values: their targets, what they are; past them nothing is an alias or recorded for stack maps
   pub targets : (x : Value) → x < s .next → s .target x < s .next
   pub unused : (x : Value) → s .next ≤ x → s .target x ≡ x
+  pub unrecorded : (x : Value) → s .next ≤ x → s .recorded x ≡ false
   pub info : (x : Value) → x < s .next → (s .info x .home < g .blocks) × (s .info x .type < type-count)
   -- the zero log: a call, at most the present one, and a block
   pub zeros : (z : ℕ × Block) → In z (s .zeros) → (z .0 ≤ g .call) × (z .1 < g .blocks)

@@ -1,3 +1,4 @@
 pub mod Known
 pub mod Agree
 pub mod Shown
+pub mod Marks

@@ -1,9 +1,14 @@
-// Rows of finished tables, read where they lie: a block's parameters, or the arguments of a destination. Nothing is copied, and no call has a loop.
+// Rows of finished tables, read where they lie: a block's parameters, or the arguments of a destination. Nothing is copied, and no such call has a loop.
+// And which values are recorded for stack maps.
 ghost use mathlib.Core.Path.{_≡_};
 ghost use Prim.Native.Nat.{_<_, _^_};
+ghost use lib.ListN.{drop};
+ghost use Rattle.reader.specs.Marks.{Is-recorded, next-of};
 ghost use Rattle.reader.specs.Rows.{Located, Is-row, code-of, named, number, table-of};
 use entity::Block;
 use entity::Branch;
+use entity::Described;
+use entity::Value;
 
 // What is asked for: the parameters of a block, or the arguments of a branch's destination by its place.
 pub enum Asked {
@@ -95,4 +100,38 @@ pub fn row_code(params: &[u32], args: &[u32], asked: Asked) -> u32
         Asked::Params(_) => locate(params, asked).code,
         Asked::Args(_, _) => locate(args, asked).code,
     }
+}
+
+// Whether a value is recorded for stack maps, 1 or 0. With code 6 there is no such value.
+pub struct Mark {
+    pub code: u32,
+    pub number: u32,
+}
+
+// By the value's cell in the lent descriptions.
+pub fn recorded(described: &[u32], value: Value) -> Mark
+    ensures { λ r. ⌜ Is-recorded (now (described .entry)) (value .0) (r .code) (r .number) ⌝ }
+{
+    let x = value.0 as usize;
+    if described.len() <= x {
+        return Mark { code: 6, number: 0 };
+    }
+    if Described::is_marked(described[x]) {
+        return Mark { code: 0, number: 1 };
+    }
+    Mark { code: 0, number: 0 }
+}
+
+// The first recorded value from this number on; a number past the lent descriptions if there is none. So they are walked in order.
+pub fn next_recorded(described: &[u32], from: usize) -> usize
+    ensures { λ r. ⌜ r ≡ next-of from (drop from (now (described .entry))) ⌝ }
+{
+    let mut x = from;
+    while x < described.len() {
+        if Described::is_marked(described[x]) {
+            return x;
+        }
+        x += 1;
+    }
+    x
 }

@@ -42,6 +42,8 @@ pub const BEGUN: u32 = 17;
 
 pub const OWN_FULL: u32 = 18;
 
+pub const DEFINED: u32 = 19;
+
 pub const LATE: u32 = 20;
 
 // A refused call has the number 0 and leaves the counts as they were.

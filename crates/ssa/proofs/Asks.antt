@@ -43,6 +43,7 @@ module _ (g : Graph) (G : Sound g) (B : Bounds g) (v : ℕ) (lv : v < length (g 
     opens = opens;
     results = results;
     fresh = r .inv .aliased .fresh (s .next) (omega arith);
+    unrecorded = r .ranged .unrecorded (s .next) (omega arith);
     few = omega (arith, load-next s k (r .load));
     defs = def-below g s (r .ranged);
   }
@@ -81,7 +82,8 @@ module _ (g : Graph) (G : Sound g) (B : Bounds g) (v : ℕ) (lv : v < length (g 
           there = r .value;
           typed = t .info x (r .value) .1;
           room = r .next;
-          fresh = t .unused (s .next) (omega arith);
+          fresh = t .unused;
+          unrecorded = t .unrecorded;
           targets = t .targets;
           chains = chains-end-now g v others k (conf (finish x b ∷ ts) rs s) m;
           enough = r .taken;

@@ -104,8 +104,14 @@ give-arg-requires c κs = ready (c .before .before .before .before .before .befo
 returns-16 : tie.Need-returns-16
 returns-16 c = λ t e h. rw (c .before .before .before .before .before .match .keys16) record { replies = c .before .before .give-arg .ensures t (h .showing); idle = h .idle }
 
+mark-var-needs-stack-map-requires : tie.Need-mark-var-needs-stack-map-requires
+mark-var-needs-stack-map-requires c κs = ready (c .before .before .before .before .before .before .pre)
+
 returns-17 : tie.Need-returns-17
-returns-17 c =
+returns-17 c = λ t e h. rw (c .before .before .before .before .before .match .keys17) record { replies = c .before .before .mark-var-needs-stack-map .ensures t (h .showing); idle = h .idle }
+
+returns-18 : tie.Need-returns-18
+returns-18 c =
     let e1 = c .before .before .before .before .before in
     λ t e h. rw (unknown (t .graph) (t .form) (t .done) (e1 .args .x) (e1 .args .y) (e1 .args .z) (e1 .args .kind) (c .before .match .rest)) (turned-down h (c .refuse .ensures))
 
@@ -122,4 +128,5 @@ one-call-spec =
     (λ c. search needs) (λ c. search needs) (λ c. search needs) returns-11 (λ c κs. search needs) (λ c. search needs)
     (λ c. search needs) (λ c. search needs) returns-12 has-any-predecessors-requires (λ c. search needs) returns-13
     is-sealed-requires (λ c. search needs) returns-14 own-param-requires (λ c. search needs) (λ c. search needs) returns-15
-    give-arg-requires (λ c. search needs) (λ c. search needs) returns-16 (λ c κs. search needs) returns-17)
+    give-arg-requires (λ c. search needs) (λ c. search needs) returns-16
+    mark-var-needs-stack-map-requires (λ c. search needs) (λ c. search needs) returns-17 (λ c κs. search needs) returns-18)
