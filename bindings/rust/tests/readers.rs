@@ -135,7 +135,8 @@ fn values_that_stack_maps_must_have() {
     assert!(session.params(Block(3)).unwrap().eq([joined]));
     let words = session.to_string();
     assert!(words.contains("variable 0: I32, marked for stack maps\nvariable 1: I32\n"), "{words}");
-    assert!(words.contains(&format!("  {joined}: I32, parameter, recorded for stack maps\n  value 4: I32, parameter, now value 1\n")), "{words}");
+    let join = format!("  {joined}: I32, parameter, recorded for stack maps\n  value 4: I32, parameter, now value 1\n");
+    assert!(words.contains(&join), "{words}");
 }
 
 /// A parameter of a marked variable stays recorded when it becomes an alias. The zero that it then stands for is not recorded until it is given.
@@ -156,7 +157,8 @@ fn a_zero_is_recorded_once_it_is_given() {
 #[test]
 fn marks_change_nothing_else() {
     let mut list = List::new();
-    for call in [[1, 0, 0, 0], [1, 1, 0, 0], [2, 0, 2, 0], [17, 0, 0, 0], [3, 0, 2, 0], [4, 0, 0, 0], [17, 0, 0, 0], [6, 0, 1, 0], [12, 0, 0, 0]] {
+    let before = [[1, 0, 0, 0], [1, 1, 0, 0], [2, 0, 2, 0], [17, 0, 0, 0], [3, 0, 2, 0], [4, 0, 0, 0]];
+    for call in before.into_iter().chain([[17, 0, 0, 0], [6, 0, 1, 0], [12, 0, 0, 0]]) {
         let _ = list.push(call);
     }
     let mut without = List::new();

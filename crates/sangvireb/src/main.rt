@@ -19,7 +19,8 @@ S code                      0 run, 2 refused whole: more calls than a session ta
 C counts                    blocks, variables, values, made values, zeros
 A call code number          the answer to a call; code 0 is accepted
 V value sort type block target
-                            sort 0 made, 1 parameter, 2 zero; the target is the value itself, or what replaces it
+                            sort 0 made, 1 parameter, 2 zero, 3 caller's parameter; the target is the value itself,
+                            or what replaces it
 K value bits                the bits that a zero holds, in hexadecimal: its type's unset value
 P block values              the block's parameters
 B block count               its branch has so many destinations
@@ -29,6 +30,8 @@ U block variables           its pending variables
 E block mark                1 if it is sealed
 L block variable value+1    the value that it records last for the variable, plus one
 Z row call block            a row of the zero log
+M variables                 the variables marked for stack maps
+W values                    the values recorded for them
 O blocks                    the blocks in the order placed
 END                         of the list
 ",
