@@ -117,7 +117,8 @@ impl Figures {
         let recorded: Vec<String> = Sort::ALL.iter().zip(self.recorded).map(|(sort, count)| format!("{sort} {count}")).collect();
         let [variables, made, callers, zeros] = self.types.map(|of| of.into_iter().min().unwrap_or(0));
         format!(
-            "codes: {codes}\nlists with a marked variable: {}; values recorded: {}\nsessions refused with 2: {}; destinations with another count than their block's parameters: {}\n\
+            "codes: {codes}\nlists with a marked variable: {}; values recorded: {}\n\
+             sessions refused with 2: {}; destinations with another count than their block's parameters: {}\n\
              accepted/asked by kind, {above} for all above {last}: {kinds}\n\
              of each type at least {variables} variables, {made} made values, {callers} caller's parameters, {zeros} zeros; first steps of zeros: {}",
             self.marked,
