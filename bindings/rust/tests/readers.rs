@@ -67,7 +67,7 @@ fn the_zeros_of_a_block() {
 fn an_unset_float_is_a_quiet_nan() {
     let mut ssa = SSABuilder::new();
     ssa.declare_block(Block(0)).unwrap();
-    for (variable, ty) in (0..).zip(Type::ALL) {
+    for (variable, ty) in (0..6).zip(Type::ALL) {
         ssa.declare_var(Variable(variable), ty).unwrap();
     }
     ssa.seal_all_blocks().unwrap();
@@ -77,7 +77,7 @@ fn an_unset_float_is_a_quiet_nan() {
     let bits = |value| session.value(value).unwrap().unset_bits();
     let [i8, i16, i32, i64, short, long] = answers.map(|value| bits(value).expect("each answer is a zero"));
     assert_eq!([i8, i16, i32, i64], [0; 4]);
-    let (short, long) = (f32::from_bits(short.try_into().unwrap()), f64::from_bits(long));
+    let (short, long) = (f32::from_bits(short.try_into().unwrap()), f64::from_bits(long.try_into().unwrap()));
     assert!(short.is_nan() && short.is_sign_positive() && short.to_bits() & 1 << 22 != 0, "{:x}", short.to_bits());
     assert!(long.is_nan() && long.is_sign_positive() && long.to_bits() & 1 << 51 != 0, "{:x}", long.to_bits());
     assert_eq!((short.to_bits(), long.to_bits()), (0x7FC0_0000, 0x7FF8_0000_0000_0000));
@@ -135,7 +135,8 @@ fn values_that_stack_maps_must_have() {
     assert!(session.params(Block(3)).unwrap().eq([joined]));
     let words = session.to_string();
     assert!(words.contains("variable 0: I32, marked for stack maps\nvariable 1: I32\n"), "{words}");
-    assert!(words.contains(&format!("  {joined}: I32, parameter, recorded for stack maps\n  value 4: I32, parameter, now value 1\n")), "{words}");
+    let join = format!("  {joined}: I32, parameter, recorded for stack maps\n  value 4: I32, parameter, now value 1\n");
+    assert!(words.contains(&join), "{words}");
 }
 
 /// A parameter of a marked variable stays recorded when it becomes an alias. The zero that it then stands for is not recorded until it is given.
@@ -156,7 +157,8 @@ fn a_zero_is_recorded_once_it_is_given() {
 #[test]
 fn marks_change_nothing_else() {
     let mut list = List::new();
-    for call in [[1, 0, 0, 0], [1, 1, 0, 0], [2, 0, 2, 0], [17, 0, 0, 0], [3, 0, 2, 0], [4, 0, 0, 0], [17, 0, 0, 0], [6, 0, 1, 0], [12, 0, 0, 0]] {
+    let before = [[1, 0, 0, 0], [1, 1, 0, 0], [2, 0, 2, 0], [17, 0, 0, 0], [3, 0, 2, 0], [4, 0, 0, 0]];
+    for call in before.into_iter().chain([[17, 0, 0, 0], [6, 0, 1, 0], [12, 0, 0, 0]]) {
         let _ = list.push(call);
     }
     let mut without = List::new();

@@ -31,7 +31,7 @@ E block mark                1 if it is sealed
 L block variable value+1    the value that it records last for the variable, plus one
 Z row call block            a row of the zero log
 M variables                 the variables marked for stack maps
-W values                    the values recorded for stack maps
+W values                    the values recorded for them
 O blocks                    the blocks in the order placed
 END                         of the list
 ",
