@@ -162,12 +162,17 @@ mod tests {
     use super::*;
     use sangvireb::raw::*;
 
-    /// Puts another value for the first argument that there is.
+    /// Puts another value for the first argument of the builder's that there is.
     fn spoil(lent: &mut Lent) -> bool {
-        let form = &mut lent.tables[3];
+        let [_, _, graph, form, _] = &mut lent.tables;
         let values = form[VALUE_COUNT];
-        let Some(row) = (0..BLOCKS * DESTS).map(|i| ARG_ROWS + PARAM_ROW * i).find(|&row| form[row] > 0) else { return false };
-        form[row + 1] = (form[row + 1] + 1) % values;
+        let row = |i: usize| {
+            let to = graph[DEST_ROWS + DEST_ROW * (i / DESTS) + 1 + i % DESTS] as usize;
+            (ARG_ROWS + PARAM_ROW * i, form[OWNS + to])
+        };
+        let Some((row, own)) = (0..BLOCKS * DESTS).map(row).find(|&(row, own)| form[row] > own) else { return false };
+        let argument = row + 1 + own as usize;
+        form[argument] = (form[argument] + 1) % values;
         true
     }
 
