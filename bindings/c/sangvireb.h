@@ -15,7 +15,7 @@ extern "C" {
 #endif
 
 /* The interface that this header is for. Ask sangvireb_fits() once before anything else. */
-enum { SANGVIREB_VERSION = 5 };
+enum { SANGVIREB_VERSION = 6 };
 
 /* Limits, and the lengths that the three lists of tables need. The answers need a cell a call. */
 enum {
@@ -26,7 +26,7 @@ enum {
     SANGVIREB_OWN_PARAMS = 64, /* parameters of a block that are the caller's own */
     SANGVIREB_CALLS = 16384,
     SANGVIREB_GRAPH_NEED = 5058,
-    SANGVIREB_FORM_NEED = 115461,
+    SANGVIREB_FORM_NEED = 123653,
     SANGVIREB_WORK_NEED = 1665
 };
 
@@ -49,15 +49,15 @@ enum {
     SANGVIREB_VALUE_COUNT = 0,
     SANGVIREB_MADE_COUNT = 1,
     SANGVIREB_TARGET = 2,
-    SANGVIREB_DESCRIBED = 12290,
-    SANGVIREB_PLACED = 24578,
-    SANGVIREB_ZERO_CALLS = 24643,
-    SANGVIREB_ZERO_BLOCKS = 28740,
-    SANGVIREB_PARAM_ROWS = 32837,
-    SANGVIREB_OWNS = 41093, /* how many of a block's parameters, its first ones, are the caller's */
-    SANGVIREB_PENDING_ROWS = 41157,
-    SANGVIREB_DEFS = 45317,
-    SANGVIREB_ARG_ROWS = 49413,
+    SANGVIREB_DESCRIBED = 16386,
+    SANGVIREB_PLACED = 32770,
+    SANGVIREB_ZERO_CALLS = 32835,
+    SANGVIREB_ZERO_BLOCKS = 36932,
+    SANGVIREB_PARAM_ROWS = 41029,
+    SANGVIREB_OWNS = 49285, /* how many of a block's parameters, its first ones, are the caller's */
+    SANGVIREB_PENDING_ROWS = 49349,
+    SANGVIREB_DEFS = 53509,
+    SANGVIREB_ARG_ROWS = 57605,
     SANGVIREB_PARAM_ROOM = 128, /* parameters of a block or arguments of a destination */
     SANGVIREB_PARAM_ROW = 129,
     SANGVIREB_PARAM_CELLS = 8256,
@@ -86,14 +86,33 @@ enum {
     SANGVIREB_KIND_MARK_VAR_NEEDS_STACK_MAP = 17   /* variable: the values that it receives from here on are recorded */
 };
 
-/* Types of variables and values. */
+/* Types of variables and values, by the crate's names: I8X16 is a vector of 16 lanes that are I8. sangvireb_type() has what there is to know of each. */
 enum {
     SANGVIREB_TYPE_I8 = 0,
     SANGVIREB_TYPE_I16 = 1,
     SANGVIREB_TYPE_I32 = 2,
     SANGVIREB_TYPE_I64 = 3,
     SANGVIREB_TYPE_F32 = 4,
-    SANGVIREB_TYPE_F64 = 5
+    SANGVIREB_TYPE_F64 = 5,
+    SANGVIREB_TYPE_I128 = 6,
+    SANGVIREB_TYPE_F16 = 7,
+    SANGVIREB_TYPE_F128 = 8,
+    SANGVIREB_TYPE_I8X2 = 9,
+    SANGVIREB_TYPE_I8X4 = 10,
+    SANGVIREB_TYPE_I8X8 = 11,
+    SANGVIREB_TYPE_I8X16 = 12,
+    SANGVIREB_TYPE_I16X2 = 13,
+    SANGVIREB_TYPE_I16X4 = 14,
+    SANGVIREB_TYPE_I16X8 = 15,
+    SANGVIREB_TYPE_I32X2 = 16,
+    SANGVIREB_TYPE_I32X4 = 17,
+    SANGVIREB_TYPE_I64X2 = 18,
+    SANGVIREB_TYPE_F16X2 = 19,
+    SANGVIREB_TYPE_F16X4 = 20,
+    SANGVIREB_TYPE_F16X8 = 21,
+    SANGVIREB_TYPE_F32X2 = 22,
+    SANGVIREB_TYPE_F32X4 = 23,
+    SANGVIREB_TYPE_F64X2 = 24
 };
 
 /* Sorts of values. */
@@ -192,13 +211,35 @@ typedef struct {
 sangvireb_drawn sangvireb_draw(const uint32_t *graph, size_t graph_len, const uint32_t *form, size_t form_len, char *buffer,
                                size_t buffer_len);
 
-/* The bits of a type's unset value, in the lowest bits of the answer, by the type's number: what a variable of that type holds where it has received nothing,
- * and what each zero of that type holds. No bit is set for an integer; for a float they are a quiet NaN, 0x7FC00000 or 0x7FF8000000000000. A number
- * that names no type gets 0. */
-uint64_t sangvireb_unset_bits(uint32_t type);
+/* What there is to know of a type. */
+typedef struct {
+    uint32_t lane;  /* the type of each lane; a type that is no vector is its own */
+    uint32_t lanes; /* 1 unless it is a vector */
+    uint32_t width; /* in bytes */
+    uint32_t step;  /* a zero takes one step, 0, or two: then the first one's type plus one */
+    uint64_t low;   /* the bits of its unset value: the low 64 .. */
+    uint64_t high;  /* .. and the high 64 */
+} sangvireb_type_facts;
 
-/* The same of a value of sort SANGVIREB_SORT_ZERO in a finished session's `form`: the bits that it holds wherever its block begins. */
-static inline uint64_t sangvireb_zero_bits(const uint32_t *form, uint32_t value) {
+/* By the type's number. The unset value is what a variable of that type holds where it has received nothing, and what each zero of that type holds: no bit is
+ * set for an integer, and in each lane of a float is a quiet NaN. A number that names no type has no lanes, no width and no bits. */
+sangvireb_type_facts sangvireb_type(uint32_t type);
+
+/* Up to 128 bits. */
+typedef struct {
+    uint64_t low;
+    uint64_t high;
+} sangvireb_bits;
+
+static inline sangvireb_bits sangvireb_unset_bits(uint32_t type) {
+    sangvireb_type_facts facts = sangvireb_type(type);
+    sangvireb_bits bits = {facts.low, facts.high};
+    return bits;
+}
+
+/* The bits that a value of sort SANGVIREB_SORT_ZERO in a finished session's `form` holds wherever its block begins. Where a zero takes two steps, both are
+ * values of that sort, each with its own type's bits. */
+static inline sangvireb_bits sangvireb_zero_bits(const uint32_t *form, uint32_t value) {
     return sangvireb_unset_bits(SANGVIREB_TYPE_OF(form[SANGVIREB_DESCRIBED + value]));
 }
 
@@ -225,7 +266,7 @@ static inline int sangvireb_fits(void) {
     static const uint32_t here[] = {
         SANGVIREB_VERSION, SANGVIREB_BLOCKS, SANGVIREB_VARIABLES, SANGVIREB_DESTS,
         SANGVIREB_MADE, SANGVIREB_CALLS, SANGVIREB_GRAPH_NEED, SANGVIREB_FORM_NEED,
-        SANGVIREB_WORK_NEED, SANGVIREB_KIND_MARK_VAR_NEEDS_STACK_MAP, SANGVIREB_TYPE_F64 + 1, SANGVIREB_SORT_CALLER_PARAMETER + 1,
+        SANGVIREB_WORK_NEED, SANGVIREB_KIND_MARK_VAR_NEEDS_STACK_MAP, SANGVIREB_TYPE_F64X2 + 1, SANGVIREB_SORT_CALLER_PARAMETER + 1,
         SANGVIREB_OWN_PARAMS};
     for (uint32_t which = 0; which < sizeof here / sizeof here[0]; which++) {
         if (sangvireb_limit(which) != here[which]) {

@@ -1,5 +1,5 @@
 /* Two branches give a reading different values; after the join a parameter stands for it, and is drawn. Then the refusals of a whole session, unset
- * values, a loop that carries an index, values recorded for stack maps, and resolving. */
+ * values of many types, a loop that carries an index, values recorded for stack maps, and resolving. */
 #include "sangvireb.h"
 #include <stdio.h>
 #include <string.h>
@@ -92,24 +92,48 @@ int main(void) {
     r = sangvireb_session(k, N, x, N, y, N, z, N, codes, N, numbers, N, NULL, 0, form, SANGVIREB_FORM_NEED, work, SANGVIREB_WORK_NEED);
     expect(r == SANGVIREB_SHORT, "no graph at all is too short");
 
-    /* a float of each width and an integer, used where nothing has set them: values 1, 3 and 5 are their zeros */
-    static const uint32_t unset[][4] = {{1, 0, 0, 0}, {2, 0, SANGVIREB_TYPE_F32, 0}, {2, 1, SANGVIREB_TYPE_F64, 0}, {2, 2, SANGVIREB_TYPE_I64, 0},
-                                        {11, 0, 0, 0}, {6, 0, 0, 0}, {6, 1, 0, 0}, {6, 2, 0, 0}};
-    enum { M = sizeof unset / sizeof unset[0] };
-    for (size_t i = 0; i < M; i++) {
-        k[i] = unset[i][0], x[i] = unset[i][1], y[i] = unset[i][2], z[i] = unset[i][3];
+    /* Variables of several types, used where nothing has set them. Each use appends a parameter and answers a zero, the last of its steps: an I128 is an I64,
+     * widened, and a vector of floats a scalar, put in each lane. */
+    static const struct {
+        uint32_t type, lane, lanes, width, step, zero;
+        uint64_t low, high;
+    } unset[] = {
+        {SANGVIREB_TYPE_F32, SANGVIREB_TYPE_F32, 1, 4, 0, 1, 0x7FC00000, 0},
+        {SANGVIREB_TYPE_F64, SANGVIREB_TYPE_F64, 1, 8, 0, 3, 0x7FF8000000000000, 0},
+        {SANGVIREB_TYPE_I64, SANGVIREB_TYPE_I64, 1, 8, 0, 5, 0, 0},
+        {SANGVIREB_TYPE_I128, SANGVIREB_TYPE_I128, 1, 16, SANGVIREB_TYPE_I64 + 1, 8, 0, 0},
+        {SANGVIREB_TYPE_F16, SANGVIREB_TYPE_F16, 1, 2, 0, 10, 0x7E00, 0},
+        {SANGVIREB_TYPE_F128, SANGVIREB_TYPE_F128, 1, 16, 0, 12, 0, 0x7FFF800000000000},
+        {SANGVIREB_TYPE_I8X16, SANGVIREB_TYPE_I8, 16, 16, 0, 14, 0, 0},
+        {SANGVIREB_TYPE_F16X2, SANGVIREB_TYPE_F16, 2, 4, SANGVIREB_TYPE_F16 + 1, 17, 0x7E007E00, 0},
+        {SANGVIREB_TYPE_F32X4, SANGVIREB_TYPE_F32, 4, 16, SANGVIREB_TYPE_F32 + 1, 20, 0x7FC000007FC00000, 0x7FC000007FC00000},
+        {SANGVIREB_TYPE_F64X2, SANGVIREB_TYPE_F64, 2, 16, SANGVIREB_TYPE_F64 + 1, 23, 0x7FF8000000000000, 0x7FF8000000000000}};
+    enum { T = sizeof unset / sizeof unset[0], M = 2 * T + 2 };
+    k[0] = 1, k[1] = 11, x[0] = x[1] = 0;
+    for (uint32_t v = 0; v < T; v++) {
+        k[2 + v] = 2, x[2 + v] = v, y[2 + v] = unset[v].type;
+        k[2 + T + v] = 6, x[2 + T + v] = v, y[2 + T + v] = 0;
     }
     r = sangvireb_session(k, M, x, M, y, M, z, M, codes, M, numbers, M, graph, SANGVIREB_GRAPH_NEED, form, SANGVIREB_FORM_NEED, work,
                           SANGVIREB_WORK_NEED);
-    static const uint64_t due[] = {0x7FC00000, 0x7FF8000000000000, 0};
-    for (uint32_t v = 0; v < 3; v++) {
-        uint32_t zero = numbers[M - 3 + v];
-        expect(r == SANGVIREB_RUN && SANGVIREB_SORT_OF(form[SANGVIREB_DESCRIBED + zero]) == SANGVIREB_SORT_ZERO && zero == 2 * v + 1,
-               "a variable that nothing has set is answered a zero");
-        expect(sangvireb_zero_bits(form, zero) == due[v], "a zero holds its type's unset value, for a float a quiet NaN");
+    expect(r == SANGVIREB_RUN && form[SANGVIREB_ZERO_CALLS] == T && form[SANGVIREB_VALUE_COUNT] == 24,
+           "one row of the log a zero, however many steps it takes");
+    for (uint32_t v = 0; v < T; v++) {
+        sangvireb_type_facts facts = sangvireb_type(unset[v].type);
+        expect(facts.lane == unset[v].lane && facts.lanes == unset[v].lanes && facts.width == unset[v].width && facts.step == unset[v].step,
+               "a type has its lane, its lanes, its width and its steps");
+        uint32_t zero = numbers[2 + T + v], cell = form[SANGVIREB_DESCRIBED + zero];
+        expect(zero == unset[v].zero && SANGVIREB_SORT_OF(cell) == SANGVIREB_SORT_ZERO && SANGVIREB_TYPE_OF(cell) == unset[v].type,
+               "a variable that nothing has set is answered a zero of its type");
+        sangvireb_bits bits = sangvireb_zero_bits(form, zero);
+        expect(bits.low == unset[v].low && bits.high == unset[v].high, "a zero holds its type's unset value, in each lane of a float a quiet NaN");
+        cell = form[SANGVIREB_DESCRIBED + zero - 1];
+        expect(facts.step == 0 || (SANGVIREB_SORT_OF(cell) == SANGVIREB_SORT_ZERO && SANGVIREB_TYPE_OF(cell) == facts.step - 1),
+               "the first of two steps stands directly before the zero, with its own type");
     }
-    expect(sangvireb_unset_bits(SANGVIREB_TYPE_I8) == 0 && sangvireb_unset_bits(6) == 0 && sangvireb_unset_bits(UINT32_MAX) == 0,
-           "an integer's unset value is 0, and so is that of no type");
+    sangvireb_type_facts past = sangvireb_type(SANGVIREB_TYPE_F64X2 + 1), far = sangvireb_type(UINT32_MAX);
+    expect(past.lanes == 0 && past.width == 0 && past.step == 0 && past.low == 0 && past.high == 0 && far.lanes == 0 && far.low == 0,
+           "a number that names no type has no lanes, no width and no bits");
 
     /* a loop that carries an index: block 1's own parameter 0 takes 1 from block 0 and 4 from itself, and the builder's parameter 3 stands behind it */
     static const uint32_t carried[][4] = {

@@ -88,7 +88,7 @@ impl Both {
     fn differing_bits(&self, calls: &[Call]) -> Option<String> {
         let session = Finished::of(calls, &self.lent);
         let zeros = (0..session.values()).filter(|&value| session.sort(value) == 2);
-        let bits: Vec<(usize, u64)> = zeros.map(|value| (value as usize, raw::unset_bits(session.type_of(value)))).collect();
+        let bits: Vec<(usize, u128)> = zeros.map(|value| (value as usize, raw::type_facts(session.type_of(value)).unset_bits())).collect();
         (bits != self.expected.bits).then(|| format!("bits of zeros: the oracle has {:x?}, the library {bits:x?}", self.expected.bits))
     }
 
@@ -186,5 +186,15 @@ mod tests {
         assert_eq!(both.expected.bits, [(1, 0x7fc0_0000)]);
         both.expected.bits[0].1 = 0;
         assert_eq!(both.differing_bits(&calls).expect("it differs"), "bits of zeros: the oracle has [(1, 0)], the library [(1, 7fc00000)]");
+    }
+
+    #[test]
+    fn a_zero_in_two_steps_is_compared_step_by_step() {
+        let mut both = Both::new(8);
+        let calls = [[1, 0, 0, 0], [2, 0, 23, 0], [11, 0, 0, 0], [6, 0, 0, 0]];
+        assert_eq!(both.difference(&calls), None);
+        assert_eq!(both.expected.bits, [(1, 0x7fc0_0000), (2, 0x7fc0_0000_7fc0_0000_7fc0_0000_7fc0_0000)]);
+        both.expected.bits.remove(0);
+        assert!(both.differing_bits(&calls).is_some());
     }
 }

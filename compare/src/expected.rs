@@ -18,7 +18,7 @@ pub struct Expected {
     /// the lists of parameters and arguments that the oracle names
     pub rows: HashMap<Asked, Vec<u32>>,
     /// the zeros that the oracle names, with their bits
-    pub bits: Vec<(usize, u64)>,
+    pub bits: Vec<(usize, u128)>,
     /// the values that the oracle has recorded for stack maps
     pub recorded: Vec<usize>,
 }
@@ -58,7 +58,7 @@ impl Expected {
     /// A zero and its bits in hexadecimal.
     fn bits_line(&mut self, rest: &str) -> Option<()> {
         let (value, bits) = rest.trim().split_once(' ')?;
-        self.bits.push((value.parse().ok()?, u64::from_str_radix(bits, 16).ok()?));
+        self.bits.push((value.parse().ok()?, u128::from_str_radix(bits, 16).ok()?));
         Some(())
     }
 

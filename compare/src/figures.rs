@@ -2,7 +2,7 @@
 use crate::both::Both;
 use lists::finished::Finished;
 use lists::{Call, MAX_CALLS};
-use sangvireb::{Kind, Sort};
+use sangvireb::{Kind, Sort, Type};
 use sangvireb::raw::*;
 
 const CODES: usize = 21;
@@ -24,7 +24,14 @@ pub struct Figures {
     marked: u64,
     recorded: [u64; Sort::ALL.len()],
     unfit: u64,
+    /// by type: variables, made values and caller's parameters of it, and zeros
+    types: [[u64; Type::ALL.len()]; 4],
+    /// zeros that are the first of two steps
+    steps: u64,
 }
+
+/// The kinds that name a type in their second number.
+const OF_TYPES: [u32; 3] = [2, 3, 15];
 
 impl Figures {
     /// Counts a list that was just compared.
@@ -41,6 +48,7 @@ impl Figures {
             self.accepted[kind] += u64::from(code == 0);
             self.codes[(code as usize).min(CODES - 1)] += 1;
         }
+        self.count_types(calls, both);
         let form = both.lent.form();
         let (values, zeros) = (form[VALUE_COUNT] as usize, form[ZERO_CALLS] as usize);
         let args = (0..BLOCKS * DESTS).map(|i| form[ARG_ROWS + PARAM_ROW * i] as usize).max().unwrap_or(0);
@@ -52,6 +60,21 @@ impl Figures {
         let links = longest_chain(&form[TARGET..TARGET + values]);
         let heights = [both.heights.scheduled, both.heights.results];
         self.raise([calls.len(), values, zeros, links, params, args, heights[0], heights[1]]);
+    }
+
+    fn count_types(&mut self, calls: &[Call], both: &Both) {
+        let session = Finished::of(calls, &both.lent);
+        for (call, _) in session.accepted() {
+            if let Some(place) = OF_TYPES.iter().position(|&kind| kind == call[0]) {
+                self.types[place][call[2] as usize] += 1;
+            }
+        }
+        let mut zeros = 0;
+        for value in (0..session.values()).filter(|&value| session.sort(value) == 2) {
+            self.types[3][session.type_of(value) as usize] += 1;
+            zeros += 1;
+        }
+        self.steps += zeros - u64::from(both.lent.form()[ZERO_CALLS]);
     }
 
     fn raise(&mut self, seen: [usize; 8]) {
@@ -69,6 +92,8 @@ impl Figures {
         sum(&mut self.recorded, &other.recorded);
         sum(&mut self.kinds, &other.kinds);
         sum(&mut self.accepted, &other.accepted);
+        self.types.iter_mut().zip(&other.types).for_each(|(mine, theirs)| sum(mine, theirs));
+        self.steps += other.steps;
         self.raise(other.most);
     }
 
@@ -90,13 +115,17 @@ impl Figures {
         let (codes, kinds) = (codes.join("  "), kinds.join("  "));
         let (last, above) = (KINDS - 2, KINDS - 1);
         let recorded: Vec<String> = Sort::ALL.iter().zip(self.recorded).map(|(sort, count)| format!("{sort} {count}")).collect();
+        let [variables, made, callers, zeros] = self.types.map(|of| of.into_iter().min().unwrap_or(0));
         format!(
-            "codes: {codes}\nlists with a marked variable: {}; values recorded: {}\nsessions refused with 2: {}; destinations with another count than their block's parameters: {}\n\
-             accepted/asked by kind, {above} for all above {last}: {kinds}",
+            "codes: {codes}\nlists with a marked variable: {}; values recorded: {}\n\
+             sessions refused with 2: {}; destinations with another count than their block's parameters: {}\n\
+             accepted/asked by kind, {above} for all above {last}: {kinds}\n\
+             of each type at least {variables} variables, {made} made values, {callers} caller's parameters, {zeros} zeros; first steps of zeros: {}",
             self.marked,
             recorded.join(", "),
             self.unfit,
-            self.uneven
+            self.uneven,
+            self.steps
         )
     }
 }

@@ -68,7 +68,7 @@ impl Walker for Guided {
     }
 
     /// The unset value of I32 is 0, so these differ from it and from each other.
-    fn content(&mut self, of: Content) -> u64 {
+    fn content(&mut self, of: Content) -> u128 {
         match of {
             Content::Unset => 1,
             Content::Made => 2,
@@ -80,7 +80,7 @@ impl Walker for Guided {
     }
 }
 
-fn said(word: u64) -> &'static str {
+fn said(word: u128) -> &'static str {
     ["zero", "whatever stood there, for it was never set", "what the made value holds"][word as usize]
 }
 

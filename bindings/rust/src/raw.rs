@@ -6,7 +6,7 @@
 use crate::{library, Block, Branch, Kind, Sort, Type};
 
 /// The version of the library's calls that this package was written for.
-pub const VERSION: u32 = 5;
+pub const VERSION: u32 = 6;
 
 /// Blocks in a session.
 pub const BLOCKS: usize = 64;
@@ -23,8 +23,8 @@ pub const CALLS: usize = 16384;
 
 /// Zeros that a session can add: one for each variable and block.
 pub const ZERO_ROOM: usize = BLOCKS * VARIABLES;
-/// Values of every sort: those made, and a parameter and a zero for each variable and block.
-pub const VALUE_ROOM: usize = MADE + 2 * ZERO_ROOM;
+/// Values of every sort: those made, and for each variable and block a parameter and a zero in two steps.
+pub const VALUE_ROOM: usize = MADE + 3 * ZERO_ROOM;
 /// Parameters of a block, or arguments of a destination: the caller's, and one for each variable.
 pub const PARAM_ROOM: usize = OWN_PARAMS + VARIABLES;
 
@@ -148,6 +148,31 @@ struct Drawn {
     length: usize,
 }
 
+/// What there is to know of a type, in numbers; [`Type`] has it in words.
+#[repr(C)]
+#[derive(Clone, Copy, PartialEq, Eq, Debug)]
+pub struct TypeFacts {
+    /// The number of the type of each lane: its own, unless it is a vector.
+    pub lane: u32,
+    /// How many lanes it has.
+    pub lanes: u32,
+    /// In bytes.
+    pub width: u32,
+    /// Where a zero takes two steps, the number of the first one's type plus one; else 0.
+    pub step: u32,
+    /// Of the bits of its unset value the low 64.
+    pub low: u64,
+    /// And the high 64.
+    pub high: u64,
+}
+
+impl TypeFacts {
+    /// The bits of its unset value: what a zero of that type holds.
+    pub fn unset_bits(&self) -> u128 {
+        u128::from(self.high) << 64 | u128::from(self.low)
+    }
+}
+
 // As in bindings/c/sangvireb.h: a list is a pointer and a length.
 extern "C" {
     fn sangvireb_session(
@@ -183,7 +208,7 @@ extern "C" {
         buffer: *mut u8,
         buffer_len: usize,
     ) -> Drawn;
-    fn sangvireb_unset_bits(ty: u32) -> u64;
+    fn sangvireb_type(ty: u32) -> TypeFacts;
     fn sangvireb_limit(which: u32) -> u32;
 }
 
@@ -325,16 +350,15 @@ pub fn draw(graph: &[u32], form: &[u32], buffer: &mut [u8]) -> (u32, usize) {
     (drawn.code, drawn.length)
 }
 
-/// The bits of a type's unset value, by the type's number: what a zero of that type holds. They stand lowest, and 0 above them; a number that names no type
-/// gets 0.
+/// What there is to know of a type, by its number. A number that names no type has no lanes, no width and no bits.
 ///
 /// # Panics
 ///
 /// If the library that is linked was built for other limits ([`check`](crate::check)).
-pub fn unset_bits(ty: u32) -> u64 {
+pub fn type_facts(ty: u32) -> TypeFacts {
     library::must_fit();
-    // SAFETY: a number in, a number out; the proved contract has no precondition.
-    unsafe { sangvireb_unset_bits(ty) }
+    // SAFETY: a number in, six numbers out; the proved contract has no precondition.
+    unsafe { sangvireb_type(ty) }
 }
 
 /// What the library tells of itself: `which` counts the rows of [`TOLD`]; past them it answers 0.

@@ -26,7 +26,7 @@ pub struct ValueData {
 impl ValueData {
     /// The bits that a zero holds wherever its block begins: those of its type's unset value ([`Type::unset_bits`]). Nothing for a value of another
     /// sort, whose contents no session knows.
-    pub fn unset_bits(&self) -> Option<u64> {
+    pub fn unset_bits(&self) -> Option<u128> {
         (self.sort == Sort::Zero).then(|| self.ty.unset_bits())
     }
 }
@@ -57,7 +57,7 @@ fn row<T>(cells: &[u32], start: usize, read: fn(u32) -> T) -> Row<'_, T> {
 }
 
 fn stored_type(number: u32) -> Type {
-    Type::from_number(number).expect("proved: a stored type is one of the six (numbers-named)")
+    Type::from_number(number).expect("proved: a stored type is one of Type::ALL (numbers-named)")
 }
 
 impl Session {
@@ -239,7 +239,7 @@ impl Session {
     }
 
     /// The zeros that stand at the start of the block, by number: each holds its type's unset value wherever the block begins
-    /// ([`unset_bits`](ValueData::unset_bits)).
+    /// ([`unset_bits`](ValueData::unset_bits)). Where a zero takes two steps ([`Type::step`]), both are here, the step before the whole.
     pub fn zeros(&self, block: Block) -> Result<impl Iterator<Item = ValueData> + '_, Refused> {
         self.block(block)?;
         Ok(self.values().filter(move |data| data.sort == Sort::Zero && data.block == block))

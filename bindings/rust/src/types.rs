@@ -79,7 +79,7 @@ numbered!(
 );
 
 numbered!(
-    /// The type of a variable or a value.
+    /// The type of a variable or a value, by the crate's names. What there is to know of it the library tells.
     Type from 0, "types":
     /// An integer of a byte.
     I8 "I8",
@@ -93,28 +93,86 @@ numbered!(
     F32 "F32",
     /// A float of eight bytes.
     F64 "F64",
+    /// An integer of sixteen bytes. Its zero takes two steps: an I64, widened.
+    I128 "I128",
+    /// A float of two bytes.
+    F16 "F16",
+    /// A float of sixteen bytes.
+    F128 "F128",
+    /// Two integers of a byte.
+    I8X2 "I8X2",
+    /// Four integers of a byte.
+    I8X4 "I8X4",
+    /// Eight integers of a byte.
+    I8X8 "I8X8",
+    /// Sixteen integers of a byte.
+    I8X16 "I8X16",
+    /// Two integers of two bytes.
+    I16X2 "I16X2",
+    /// Four integers of two bytes.
+    I16X4 "I16X4",
+    /// Eight integers of two bytes.
+    I16X8 "I16X8",
+    /// Two integers of four bytes.
+    I32X2 "I32X2",
+    /// Four integers of four bytes.
+    I32X4 "I32X4",
+    /// Two integers of eight bytes.
+    I64X2 "I64X2",
+    /// Two floats of two bytes.
+    F16X2 "F16X2",
+    /// Four floats of two bytes.
+    F16X4 "F16X4",
+    /// Eight floats of two bytes.
+    F16X8 "F16X8",
+    /// Two floats of four bytes.
+    F32X2 "F32X2",
+    /// Four floats of four bytes.
+    F32X4 "F32X4",
+    /// Two floats of eight bytes.
+    F64X2 "F64X2",
 );
 
+/// Each of these asks the library.
+///
+/// # Panics
+///
+/// If the library that is linked was built for other limits ([`check`](crate::check)).
 impl Type {
+    /// The type of each lane: its own, unless it is a vector.
+    pub fn lane(self) -> Type {
+        told(self.facts().lane)
+    }
+
+    /// How many lanes it has: one, unless it is a vector.
+    pub fn lanes(self) -> u32 {
+        self.facts().lanes
+    }
+
     /// In bytes.
     pub fn width(self) -> u32 {
-        match self {
-            Type::I8 => 1,
-            Type::I16 => 2,
-            Type::I32 | Type::F32 => 4,
-            Type::I64 | Type::F64 => 8,
-        }
+        self.facts().width
+    }
+
+    /// The type of the first of the two steps that a zero of this type takes; nothing if it takes one. An I128 is an I64, widened, and a vector of floats is a
+    /// scalar, put in each lane. Both steps are values of sort [`Zero`](Sort::Zero).
+    pub fn step(self) -> Option<Type> {
+        self.facts().step.checked_sub(1).map(told)
     }
 
     /// The bits of the type's unset value, in the lowest bits of the answer: what a variable of this type holds where it has received nothing, and what a
-    /// zero of it holds. No bit is set for an integer; for a float they are a quiet NaN. The library tells them.
-    ///
-    /// # Panics
-    ///
-    /// If the library that is linked was built for other limits ([`check`](crate::check)).
-    pub fn unset_bits(self) -> u64 {
-        raw::unset_bits(self.number())
+    /// zero of it holds. No bit is set for an integer; in each lane of a float is a quiet NaN.
+    pub fn unset_bits(self) -> u128 {
+        self.facts().unset_bits()
     }
+
+    fn facts(self) -> raw::TypeFacts {
+        raw::type_facts(self.number())
+    }
+}
+
+fn told(number: u32) -> Type {
+    Type::from_number(number).expect("proved: a lane and a step are named by their types' numbers (lane-of, step-of)")
 }
 
 numbered!(

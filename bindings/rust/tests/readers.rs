@@ -67,7 +67,7 @@ fn the_zeros_of_a_block() {
 fn an_unset_float_is_a_quiet_nan() {
     let mut ssa = SSABuilder::new();
     ssa.declare_block(Block(0)).unwrap();
-    for (variable, ty) in (0..).zip(Type::ALL) {
+    for (variable, ty) in (0..6).zip(Type::ALL) {
         ssa.declare_var(Variable(variable), ty).unwrap();
     }
     ssa.seal_all_blocks().unwrap();
@@ -77,7 +77,7 @@ fn an_unset_float_is_a_quiet_nan() {
     let bits = |value| session.value(value).unwrap().unset_bits();
     let [i8, i16, i32, i64, short, long] = answers.map(|value| bits(value).expect("each answer is a zero"));
     assert_eq!([i8, i16, i32, i64], [0; 4]);
-    let (short, long) = (f32::from_bits(short.try_into().unwrap()), f64::from_bits(long));
+    let (short, long) = (f32::from_bits(short.try_into().unwrap()), f64::from_bits(long.try_into().unwrap()));
     assert!(short.is_nan() && short.is_sign_positive() && short.to_bits() & 1 << 22 != 0, "{:x}", short.to_bits());
     assert!(long.is_nan() && long.is_sign_positive() && long.to_bits() & 1 << 51 != 0, "{:x}", long.to_bits());
     assert_eq!((short.to_bits(), long.to_bits()), (0x7FC0_0000, 0x7FF8_0000_0000_0000));

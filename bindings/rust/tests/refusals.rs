@@ -180,7 +180,7 @@ fn a_ninth_destination() {
 fn a_type_an_answer_or_a_place_that_is_not_there() {
     let mut list = List::new();
     let _ = list.declare_block(Block(0));
-    let unknown_type = list.push([2, 0, 6, 0]);
+    let unknown_type = list.push([2, 0, 25, 0]);
     let _ = list.declare_var(FIRST, Type::F32);
     let made = list.make_value(Block(0), Type::F32);
     let of_made = list.push([5, 0, made.place() as u32, 0]);

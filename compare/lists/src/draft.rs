@@ -4,8 +4,8 @@ use crate::manner::{Manner, Sealing};
 use crate::odd;
 use crate::rng::Rng;
 use crate::shapes::Graph;
+use crate::types;
 use crate::{Call, MAX_CALLS};
-use sangvireb::Type;
 
 /// A value that a call of this list brings: its number is known only after a run.
 #[derive(Clone, Copy)]
@@ -19,6 +19,13 @@ struct Use {
     call: u32,
     var: u32,
     block: u32,
+}
+
+/// A call that names, in its second number, the value that another brings, or the one so many before it.
+struct Owed {
+    call: usize,
+    brought: usize,
+    back: u32,
 }
 
 pub struct Draft<'r> {
@@ -35,7 +42,7 @@ pub struct Draft<'r> {
     /// by block, its parameters of the caller's, as far as they were asked for when it was declared
     owns: Vec<Vec<Brought>>,
     /// definitions and arguments, and the calls that bring their values
-    owed: Vec<(usize, usize)>,
+    owed: Vec<Owed>,
     /// edges (block, branch) that wait to be declared
     waiting: Vec<(u32, u32)>,
     declared: Vec<(u32, u32)>,
@@ -52,7 +59,7 @@ impl<'r> Draft<'r> {
                 missing[d as usize] += 1;
             }
         }
-        let types = (0..manner.vars).map(|_| any_type(&manner, rng)).collect();
+        let types = (0..manner.vars).map(|_| rng.pick(&manner.types)).collect();
         let sealed = vec![false; graph.len()];
         let owns = vec![vec![]; graph.len()];
         Draft {
@@ -95,9 +102,10 @@ impl<'r> Draft<'r> {
     fn pay(&mut self, lent: &mut Lent) -> bool {
         lent.run(&self.calls, self.rng);
         let mut changed = false;
-        for &(definition, make) in &self.owed {
-            if definition < self.calls.len() && self.calls[definition][2] != lent.numbers()[make] {
-                self.calls[definition][2] = lent.numbers()[make];
+        for &Owed { call, brought, back } in &self.owed {
+            let value = lent.numbers().get(brought).map_or(0, |number| number.saturating_sub(back));
+            if call < self.calls.len() && self.calls[call][2] != value {
+                self.calls[call][2] = value;
                 changed = true;
             }
         }
@@ -152,7 +160,7 @@ impl<'r> Draft<'r> {
     }
 
     fn own_param(&mut self, b: u32) -> Brought {
-        let ty = any_type(&self.manner, self.rng);
+        let ty = self.any_type();
         self.bring([15, b, ty, 0], ty, b)
     }
 
@@ -163,8 +171,17 @@ impl<'r> Draft<'r> {
 
     /// A call that names the value in its second number.
     fn owe(&mut self, call: Call, brought: Brought) {
-        let place = self.push(call);
-        self.owed.push((place, brought.call));
+        self.owe_before(call, brought.call, 0);
+    }
+
+    /// A call that names the value so many before the one that is brought.
+    fn owe_before(&mut self, call: Call, brought: usize, back: u32) {
+        let call = self.push(call);
+        self.owed.push(Owed { call, brought, back });
+    }
+
+    fn any_type(&mut self) -> u32 {
+        self.rng.pick(&self.manner.types)
     }
 
     /// Each block acts a few times and then branches, one block after the other or in turns.
@@ -223,6 +240,7 @@ impl<'r> Draft<'r> {
             9 => self.give_answer(v, b),
             10 if !self.manner.proper => self.give_anything(v, b),
             11 => self.give_own(v, b),
+            13 if !self.manner.proper => self.give_step(v, b),
             12 if !self.manner.proper => self.late_param(),
             13 if self.manner.marked > 0 => self.mark(v),
             _ => {
@@ -250,6 +268,15 @@ impl<'r> Draft<'r> {
         if !fitting.is_empty() {
             let own = self.rng.pick(&fitting);
             self.owe([4, v, 0, b], own);
+        }
+    }
+
+    /// The first of two steps, if a use of a variable whose zero has such a step answers one: it stands directly before.
+    fn give_step(&mut self, v: u32, b: u32) {
+        let ty = self.types[v as usize];
+        let fits = |u: &&Use| types::step(self.types[u.var as usize]) == Some(ty);
+        if let Some(call) = self.uses.iter().rev().find(fits).map(|u| u.call as usize) {
+            self.owe_before([4, v, 0, b], call, 1);
         }
     }
 
@@ -282,7 +309,7 @@ impl<'r> Draft<'r> {
             match self.rng.below(3) {
                 0 => drop(types.pop()),
                 1 => types.reverse(),
-                _ => types.push(any_type(&self.manner, self.rng)),
+                _ => types.push(self.any_type()),
             }
         }
         types.into_iter().map(|ty| self.argument(b, ty)).collect()
@@ -396,10 +423,6 @@ impl<'r> Draft<'r> {
             }
         }
     }
-}
-
-fn any_type(manner: &Manner, rng: &mut Rng) -> u32 {
-    if manner.many_types { rng.below(Type::ALL.len() as u32) } else { 2 }
 }
 
 fn distinct(dests: &[u32]) -> Vec<u32> {

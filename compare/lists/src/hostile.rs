@@ -4,7 +4,7 @@ use crate::fence::{Ground, Side};
 use crate::lent::{TABLES, needs};
 use crate::progress::Progress;
 use crate::rng::Rng;
-use crate::{Call, MAX_CALLS, limits, odd};
+use crate::{Call, MAX_CALLS, limits, odd, types};
 use sangvireb::raw::{self, Asked};
 use sangvireb::{Block, Branch, Kind};
 use std::ops::Range;
@@ -47,7 +47,7 @@ fn calls(rng: &mut Rng) -> Vec<Call> {
         10..=29 => 0,
         _ => rng.below(60),
     };
-    let (blocks, vars, manner) = (rng.within(1, 5), rng.within(1, 3), rng.below(4));
+    let (blocks, vars, types, manner) = (rng.within(1, 5), rng.within(1, 3), types::few(rng), rng.below(4));
     let mut calls: Vec<Call> = Vec::new();
     while calls.len() < count as usize {
         let n = calls.len() as u32;
@@ -55,9 +55,9 @@ fn calls(rng: &mut Rng) -> Vec<Call> {
             0 => std::array::from_fn(|_| rng.any()),
             1 => odd::call(n, blocks, rng),
             2 if n < blocks => [1, n, rng.any(), rng.any()],
-            2 if n < blocks + vars => [2, n - blocks, 2, rng.any()],
+            2 if n < blocks + vars => [2, n - blocks, rng.pick(&types), rng.any()],
             _ if rng.chance(1, 6) => odd::call(n, blocks, rng),
-            _ => odd::likely(n, blocks, vars, rng),
+            _ => odd::likely(n, blocks, vars, &types, rng),
         });
     }
     calls

@@ -17,6 +17,7 @@ pub mod rng;
 pub mod shapes;
 pub mod shrink;
 pub mod small;
+pub mod types;
 pub mod walks;
 pub mod words;
 
@@ -44,11 +45,11 @@ pub fn random(shape: Shape, lent: &mut Lent, rng: &mut Rng) -> Vec<Call> {
 /// Calls without a plan; a few blocks and variables are declared first, so that more is accepted.
 fn wild(manner: &Manner, rng: &mut Rng) -> Vec<Call> {
     let mut calls: Vec<Call> = (0..manner.blocks).map(|b| [1, b, 0, 0]).collect();
-    calls.extend((0..manner.vars).map(|v| [2, v, 2, 0]));
+    calls.extend((0..manner.vars).map(|v| [2, v, rng.pick(&manner.types), 0]));
     for _ in 0..rng.within(5, 8 * (manner.blocks + manner.tail)) {
         let n = calls.len() as u32;
         let odd = rng.chance(manner.bad, 1000);
-        calls.push(if odd { odd::call(n, manner.blocks, rng) } else { odd::likely(n, manner.blocks, manner.vars, rng) });
+        calls.push(if odd { odd::call(n, manner.blocks, rng) } else { odd::likely(n, manner.blocks, manner.vars, &manner.types, rng) });
     }
     calls.truncate(MAX_CALLS);
     calls

@@ -1,6 +1,6 @@
 //! Lists that fill what docs/RULES.md limits: blocks, variables, destinations, made values, calls, and the rooms that follow from them.
 use crate::rng::Rng;
-use crate::{Call, MAX_CALLS, odd};
+use crate::{Call, MAX_CALLS, odd, types};
 use sangvireb::raw::{BLOCKS, DESTS, MADE, OWN_PARAMS, VARIABLES};
 use sangvireb::Type;
 
@@ -25,12 +25,13 @@ pub fn fixed() -> Vec<Vec<Call>> {
     argued.into_iter().chain([full_lookup(&mut rng), waiting_results(&mut rng), followed_chain(16, 16), everything(), one_too_many]).collect()
 }
 
-/// As many calls as a list can have, and as many values: made, and a parameter and a zero for each variable in each block, none of which has a way in.
+/// As many calls as a list can have, and as many values: made, and for each variable in each block, none of which has a way in, a parameter and a zero in two
+/// steps.
 /// All variables are marked, so every such parameter is recorded; marked again at the end, each is refused.
 /// Block 2 has as many parameters of the caller's as it can have, which count as made. Once no more can be made, making one is still refused for other
 /// reasons first: an unknown block, an unknown type, a branch; for a parameter of the caller's, a block that is full or sealed.
 fn everything() -> Vec<Call> {
-    let mut calls = declared(BLOCKS, VARIABLES);
+    let mut calls = declared_as(BLOCKS, VARIABLES, |v| types::IN_TWO_STEPS[v as usize % types::IN_TWO_STEPS.len()].number());
     let (absent, no_type) = (BLOCKS as u32, Type::ALL.len() as u32);
     calls.extend(marks());
     calls.extend((0..OWN_PARAMS + 1).map(|_| [15, 2, 2, 0]));
@@ -54,8 +55,13 @@ fn marks() -> impl Iterator<Item = Call> {
 
 /// One more block and variable than there can be: the last of each is refused.
 fn declared(blocks: usize, vars: usize) -> Vec<Call> {
+    declared_as(blocks, vars, |_| Type::I32.number())
+}
+
+/// With these types of the variables.
+fn declared_as(blocks: usize, vars: usize, mut ty: impl FnMut(u32) -> u32) -> Vec<Call> {
     let mut calls: Vec<Call> = (0..blocks as u32 + 1).map(|b| [1, b, 0, 0]).collect();
-    calls.extend((0..vars as u32 + 1).map(|v| [2, v, 2, 0]));
+    calls.extend((0..vars as u32 + 1).map(|v| [2, v, ty(v), 0]));
     calls
 }
 
@@ -86,10 +92,11 @@ fn branches(rng: &mut Rng, blocks: u32, dests: u32) -> Vec<Call> {
     calls
 }
 
-/// Every variable is used in every block while all are unsealed, then all is sealed: a parameter and often a zero for each. In one block they stand behind
-/// as many parameters of the caller's as there can be.
+/// Every variable is used in every block while all are unsealed, then all is sealed: a parameter and often a zero for each, in two steps or in as many as
+/// their types take. In one block they stand behind as many parameters of the caller's as there can be.
 fn every_cell(rng: &mut Rng) -> Vec<Call> {
-    let mut calls = declared(BLOCKS, VARIABLES);
+    let wide = rng.chance(1, 2);
+    let mut calls = declared_as(BLOCKS, VARIABLES, |_| if wide { rng.pick(&types::IN_TWO_STEPS).number() } else { types::any(rng) });
     let islands = rng.chance(1, 2);
     let full = rng.below(BLOCKS as u32);
     calls.extend(marks().filter(|_| rng.chance(1, 3)));
@@ -213,9 +220,10 @@ fn arguments(rng: &mut Rng, own: usize) -> Vec<Call> {
 /// As many calls as a list can have, or one more.
 fn calls(rng: &mut Rng) -> Vec<Call> {
     let (blocks, vars) = (rng.within(2, BLOCKS as u32), rng.within(1, VARIABLES as u32));
-    let mut calls = declared(blocks as usize, vars as usize);
+    let types = types::few(rng);
+    let mut calls = declared_as(blocks as usize, vars as usize, |_| rng.pick(&types));
     while calls.len() < MAX_CALLS {
-        calls.push(odd::likely(calls.len() as u32, blocks, vars, rng));
+        calls.push(odd::likely(calls.len() as u32, blocks, vars, &types, rng));
     }
     calls.extend(rng.chance(1, 4).then_some([1, 0, 0, 0]));
     calls

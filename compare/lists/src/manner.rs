@@ -1,5 +1,6 @@
 //! How a list is drafted: its size, the order of its calls, and what is mixed in.
 use crate::rng::Rng;
+use crate::types;
 
 #[derive(Clone, Copy, PartialEq, Debug)]
 pub enum Sealing {
@@ -35,8 +36,8 @@ pub struct Manner {
     pub in_turns: bool,
     /// blocks are visited by their number, else in any order
     pub by_number: bool,
-    /// variables have different types
-    pub many_types: bool,
+    /// of variables, made values and parameters of the caller's
+    pub types: Vec<u32>,
     /// an edge may be declared long after its branch is there
     pub edges_wait: bool,
     /// parameters of the caller's that a block gets when it is declared, at most
@@ -82,7 +83,7 @@ impl Manner {
             declared_first: rng.chance(1, 2),
             in_turns: rng.chance(1, 2),
             by_number: rng.chance(1, 2),
-            many_types: rng.chance(1, 3),
+            types: types::few(rng),
             edges_wait: rng.chance(1, 3),
             own_params: rng.pick(&[0, 0, 1, 1, 2, 4]),
             astray: rng.pick(&[0, 0, 10, 40]),

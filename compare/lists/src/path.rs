@@ -1,7 +1,8 @@
 //! A finished session on a path, as docs/RULES.md says under "On a path", and the suppositions of demand 3.
 //! crates/meaning/specs has both in the words of the proofs: Path.antt and Suppositions.antt.
 use crate::finished::Finished;
-use sangvireb::{Type, raw};
+use crate::types::UNSET;
+use sangvireb::raw;
 
 /// What a block itself does, in list order.
 #[derive(Clone, Copy)]
@@ -99,15 +100,12 @@ pub struct Met {
     pub var: u32,
     pub answer: u32,
     /// the bits that the answer, aliases resolved, holds
-    pub holds: u64,
+    pub holds: u128,
     /// the bits that the variable last received, or those of its type's unset value
-    pub received: u64,
+    pub received: u128,
     /// whether the variable has received nothing on the path
     pub unset: bool,
 }
-
-/// The bits of each type's unset value, as docs/RULES.md has them. Zeros hold what the library tells; that the two agree is part of what is walked.
-const UNSET: [u64; Type::ALL.len()] = [0, 0, 0, 0, 0x7fc0_0000, 0x7ff8_0000_0000_0000];
 
 /// What a value holds that the session does not determine.
 pub enum Content {
@@ -119,14 +117,14 @@ pub enum Content {
 pub trait Walker {
     /// the place of the destination to take, or the path's end
     fn next(&mut self, dests: &[u32]) -> Option<usize>;
-    fn content(&mut self, of: Content) -> u64;
+    fn content(&mut self, of: Content) -> u128;
     fn meet(&mut self, met: Met);
 }
 
 struct Held<'s> {
     session: &'s Finished<'s>,
-    values: Vec<u64>,
-    vars: Vec<u64>,
+    values: Vec<u128>,
+    vars: Vec<u128>,
     /// by variable: it has received something
     given: Vec<bool>,
 }
@@ -135,12 +133,12 @@ impl Held<'_> {
     fn set_zeros(&mut self, block: u32) {
         for value in 0..self.values.len() as u32 {
             if self.session.is_zero_of(value, block) {
-                self.values[value as usize] = raw::unset_bits(self.session.type_of(value));
+                self.values[value as usize] = raw::type_facts(self.session.type_of(value)).unset_bits();
             }
         }
     }
 
-    fn read(&self, value: u32) -> u64 {
+    fn read(&self, value: u32) -> u128 {
         self.values[self.session.resolve(value) as usize]
     }
 
@@ -164,7 +162,7 @@ impl Held<'_> {
     /// All arguments are read before any parameter is set.
     fn go(&mut self, from: u32, place: usize) -> u32 {
         let to = self.session.dests(from)[place];
-        let read: Vec<u64> = self.session.args(from, place).iter().map(|&arg| self.read(arg)).collect();
+        let read: Vec<u128> = self.session.args(from, place).iter().map(|&arg| self.read(arg)).collect();
         for (&param, word) in self.session.params(to).iter().zip(read) {
             self.values[param as usize] = word;
         }
@@ -180,7 +178,7 @@ pub fn walk(session: &Finished, acts: &[Vec<Act>], walker: &mut impl Walker) {
 
 fn walk_by<'s>(session: &'s Finished<'s>, acts: &[Vec<Act>], walker: &mut impl Walker, go: impl Fn(&mut Held<'s>, u32, usize) -> u32) {
     let values = (0..session.values()).map(|_| walker.content(Content::Unset)).collect();
-    let vars: Vec<u64> = session.variable_types().iter().map(|&ty| UNSET[ty as usize]).collect();
+    let vars: Vec<u128> = session.variable_types().iter().map(|&ty| UNSET[ty as usize]).collect();
     let given = vec![false; vars.len()];
     let mut held = Held { session, values, vars, given };
     let mut block = 0;
@@ -201,7 +199,7 @@ mod tests {
     /// Three blocks further, always by the first destination; no two contents are the same.
     struct Short {
         left: u32,
-        contents: u64,
+        contents: u128,
         wrong: u32,
     }
 
@@ -211,7 +209,7 @@ mod tests {
             Some(0)
         }
 
-        fn content(&mut self, _: Content) -> u64 {
+        fn content(&mut self, _: Content) -> u128 {
             self.contents += 1;
             self.contents
         }

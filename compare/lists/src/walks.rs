@@ -10,6 +10,7 @@ use crate::rng::Rng;
 use crate::shapes::{Graph, SHAPES, Shape};
 use crate::shrink::shrink;
 use crate::text;
+use crate::types::{self, UNSET};
 use sangvireb::Sort;
 use std::process::ExitCode;
 
@@ -30,8 +31,8 @@ struct Figures {
     /// lists that give arguments of other blocks than the branching one
     foreign: u64,
     aliases: u64,
-    /// uses met of a variable that had received nothing, and those of them where it is a float
-    unset: [u64; 2],
+    /// uses met of a variable that had received nothing; those of them where it is a float, or a vector of floats; and those whose zero takes two steps
+    unset: [u64; 3],
 }
 
 struct Random<'a> {
@@ -49,9 +50,9 @@ impl Walker for Random<'_> {
         (!dests.is_empty()).then(|| self.rng.below(dests.len() as u32) as usize)
     }
 
-    /// Two values, or a value and a type's unset value, hold the same only by a chance of one in 2 to the 64.
-    fn content(&mut self, _: Content) -> u64 {
-        self.rng.word()
+    /// Two values, or a value and a type's unset value, hold the same only by a chance of one in 2 to the 128.
+    fn content(&mut self, _: Content) -> u128 {
+        u128::from(self.rng.word()) << 64 | u128::from(self.rng.word())
     }
 
     fn meet(&mut self, met: Met) {
@@ -59,7 +60,9 @@ impl Walker for Random<'_> {
         self.figures.uses[self.session.sort(end) as usize] += 1;
         self.figures.aliases += u64::from(end != met.answer);
         self.figures.unset[0] += u64::from(met.unset);
-        self.figures.unset[1] += u64::from(met.unset && self.session.variable_types()[met.var as usize] >= 4);
+        let ty = self.session.variable_types()[met.var as usize];
+        self.figures.unset[1] += u64::from(met.unset && UNSET[ty as usize] != 0);
+        self.figures.unset[2] += u64::from(met.unset && types::step(ty).is_some());
         if met.holds != met.received && self.breach.is_none() {
             self.breach = Some(met);
         }
@@ -148,8 +151,9 @@ fn summary(figures: &Figures) {
     println!("{} of those walked have parameters of the caller's, with {} arguments given for them", figures.carrying, figures.given);
     println!("{} paths through {} blocks, {} uses met on them", figures.paths, figures.blocks, figures.uses.iter().sum::<u64>());
     println!("sorts to which answers resolve: {}; {} were aliases", resolved.join(", "), figures.aliases);
-    let [unset, floats] = figures.unset;
-    println!("{unset} times the variable had received nothing, {floats} of them a float, whose bits are a quiet NaN's");
+    let [unset, floats, two] = figures.unset;
+    println!("{unset} times the variable had received nothing, {floats} of them a float or a vector of floats, whose lanes are quiet NaNs;");
+    println!("{two} of them a type whose zero takes two steps");
     println!("no breach");
 }
 

@@ -31,8 +31,16 @@ pub struct Told {
 macro_rules! dump_of {
     ($side:ident, $mode:ident, $calls:expr, $homes:expr) => {{
         // the requests whose rules docs/RULES.md has; `program` in compare/run names them too. 4: the caller's parameters and arguments (kinds 15 and
-        // 16); 5: a float's unset value is a quiet NaN (lines `K`); 7: marks for stack maps (kind 17, lines `M` and `W`); 9: no late definitions
-        let rules = $side::session::Rules { own_params: true, unset_nan: true, stack_maps: true, no_late: true, ..$side::session::Rules::base() };
+        // 16); 5: a float's unset value is a quiet NaN (lines `K`); 6: types 6 to 24; 7: marks for stack maps (kind 17, lines `M` and `W`); 9: no late
+        // definitions
+        let rules = $side::session::Rules {
+            own_params: true,
+            unset_nan: true,
+            wide: true,
+            stack_maps: true,
+            no_late: true,
+            ..$side::session::Rules::base()
+        };
         let mut session = $side::session::Session::with_rules($side::session::Mode::$mode, rules);
         for c in $calls {
             session.call(c[0].into(), c[1].into(), c[2].into(), c[3].into());

@@ -1,7 +1,7 @@
 -- The zero log only grows, in a use and in a seal: settling alone writes to it, and appends. So the difference of its lengths counts what was added.
 -- Assumes nothing.
 use Prim.Native.Nat.{ℕ, zero, suc, _≤_}
-use mathlib.Core.Path.{_≡_, refl, ap}
+use mathlib.Core.Path.{_≡_, refl, sym, ap, subst}
 use mathlib.Core.Bool.{Bool, true, false, cond}
 use mathlib.Core.Option.{Option, none, some}
 use mathlib.Core.List.{List, [], _∷_, map}
@@ -9,11 +9,13 @@ use lib.Dec.{eqb}
 use lib.ListN.{length, length-append}
 use native.Mathlib.Nat.{le-refl, le-trans}
 use native.Mathlib.Omega.{arith}
+use Rattle.entity.specs.Types.{step-of}
 use Rattle.definition.specs.Base.{every, without}
 use Rattle.definition.specs.Form.{Graph, Form, def, with-args}
 use Rattle.definition.specs.Read.{Got, mark, resolve, settle-left, alias, feed-all, read-all, fill, begin, walk, read-past, read-on, read, depth, wait, new-param}
-use Rattle.definition.specs.Read.{set-pending, settle-pending}
+use Rattle.definition.specs.Read.{set-pending, settle-pending, place-block, log-zero, emit-step}
 use Rattle.definition.specs.Session.{mark-sealed, seal-form, seal-each}
+use Rattle.meaning.proofs.Emit.{emit-is}
 
 abbrev More : Form → Form → Type 0
 More s t = length (s .zeros) ≤ length (t .zeros)
@@ -26,7 +28,11 @@ mark-more : (v x : ℕ) (bs : List ℕ) (s t : Form) → More s t → More s (ma
 mark-more v x bs s t h = omega (arith, h, ap length (mark-same v x bs t))
 
 settle-more : (g : Graph) (b x : ℕ) (rs : List ℕ) (s : Form) (ys : List ℕ) → More s (settle-left g b x rs s ys .1)
-settle-more g b x rs s [] = omega (arith, length-append (s .zeros) ((g .call, b) ∷ []))
+settle-more g b x rs s [] =
+    let o = step-of (s .info x .type) in
+    let s₁ = log-zero (g .call) b (place-block b s) in
+    let same : length (emit-step o b s₁ .zeros) ≡ length (s₁ .zeros) = ap (λ (t : Form). length (t .zeros)) (emit-is o b s₁) in
+    subst (λ (n : ℕ). length (s .zeros) ≤ n) (sym same) (omega (arith, length-append (s .zeros) ((g .call, b) ∷ [])))
 settle-more g b x rs s (y ∷ ys) = by (every (eqb y) ys)
   where
     by : (z : Bool) → More s (cond {A = Got} z (y, alias b x y s) (x, with-args s (feed-all g b (g .preds b) rs (s .args))) .1)

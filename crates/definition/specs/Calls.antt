@@ -9,13 +9,6 @@ use Rattle.definition.specs.Session.{Call}
 abbrev call : ℕ → ℕ → ℕ → ℕ → Call
 call k x y z = record { kind = k; x = x; y = y; z = z }
 
--- the numbers of the types I8 and I32
-abbrev pub i8 : ℕ
-i8 = 0
-
-abbrev pub i32 : ℕ
-i32 = 2
-
 abbrev pub declare-block : Block → Call
 declare-block b = call 1 b 0 0
 

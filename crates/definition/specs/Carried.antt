@@ -4,9 +4,10 @@
 use Prim.Native.Nat.{ℕ}
 use mathlib.Core.Path.{_≡_, refl}
 use mathlib.Core.List.{List, [], _∷_, _++_, map}
+use Rattle.entity.specs.Types.{i8, i32, type-count}
 use Rattle.definition.specs.Session.{Call, session}
 use Rattle.definition.specs.Calls.{declare-var, make-value, define, define-answer, use-var, new-branch, new-dest, add-pred, drop-pred, seal, seal-all}
-use Rattle.definition.specs.Calls.{own-param, give-arg, blocks, sets, jumps, i8, i32}
+use Rattle.definition.specs.Calls.{own-param, give-arg, blocks, sets, jumps}
 use Rattle.definition.specs.Tables.{Tables, tables}
 
 pub cases : List (List Call)
@@ -27,8 +28,8 @@ cases =
     -- O. A parameter of one's own gets 6 for an absent block or type, then 17 where the block has a pending use, a declared predecessor or is sealed; once
     -- the predecessor is removed it is accepted.
     (
-    blocks 3 ++ declare-var 0 i32 ∷ own-param 3 i32 ∷ own-param 0 6 ∷ use-var 0 0 ∷ own-param 0 i32 ∷ own-param 1 i32 ∷ own-param 1 i8 ∷ []
-    ++ jumps 0 (1 ∷ []) ++ own-param 1 i32 ∷ own-param 0 6 ∷ drop-pred 1 0 ∷ own-param 1 i32 ∷ seal 2 ∷ own-param 2 i32 ∷ own-param 2 6 ∷ []
+    blocks 3 ++ declare-var 0 i32 ∷ own-param 3 i32 ∷ own-param 0 type-count ∷ use-var 0 0 ∷ own-param 0 i32 ∷ own-param 1 i32 ∷ own-param 1 i8 ∷ []
+    ++ jumps 0 (1 ∷ []) ++ own-param 1 i32 ∷ own-param 0 type-count ∷ drop-pred 1 0 ∷ own-param 1 i32 ∷ seal 2 ∷ own-param 2 i32 ∷ own-param 2 type-count ∷ []
     ) ∷
     -- P. An argument gets 6 for an absent branch, value or destination, then 11 where the branch is declared, then 18 where the target has no own parameter
     -- left, also where it has one of the builder's, and whatever the type, then 7 for another type.

@@ -4,9 +4,10 @@
 use Prim.Native.Nat.{ℕ}
 use mathlib.Core.Path.{_≡_, refl}
 use mathlib.Core.List.{List, [], _∷_, _++_, map}
+use Rattle.entity.specs.Types.{i8, i32}
 use Rattle.definition.specs.Session.{Call, session}
 use Rattle.definition.specs.Calls.{declare-var, make-value, define, define-answer, use-var, new-branch, new-dest, add-pred, drop-pred, seal-all}
-use Rattle.definition.specs.Calls.{blocks, i8, i32}
+use Rattle.definition.specs.Calls.{blocks}
 use Rattle.definition.specs.Tables.{tables}
 
 unfoldable pub calls : List Call

@@ -10,3 +10,4 @@ pub mod Starred
 pub mod Late
 pub mod Carried
 pub mod Marked
+pub mod Wide

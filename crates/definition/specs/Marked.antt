@@ -3,8 +3,9 @@
 -- Assumes nothing.
 use mathlib.Core.Path.{_≡_, refl}
 use mathlib.Core.List.{List, [], _∷_, _++_, map}
+use Rattle.entity.specs.Types.{i32}
 use Rattle.definition.specs.Session.{Call, session}
-use Rattle.definition.specs.Calls.{declare-var, define-answer, use-var, seal, seal-all, mark-var, blocks, sets, jumps, i32}
+use Rattle.definition.specs.Calls.{declare-var, define-answer, use-var, seal, seal-all, mark-var, blocks, sets, jumps}
 use Rattle.definition.specs.Tables.{Tables, tables}
 
 unfoldable pub cases : List (List Call)

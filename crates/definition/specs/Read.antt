@@ -6,6 +6,7 @@ use mathlib.Core.Option.{Option, none, some}
 use mathlib.Core.List.{List, [], _∷_, map}
 use lib.Dec.{eqb}
 use lib.ListN.{getD}
+use Rattle.entity.specs.Types.{step-of}
 use Rattle.definition.specs.Base.{Block, Variable, Value, _=?_, if_then_else_, put, put₂, _∷ʳ_, has, every, without, before}
 use Rattle.definition.specs.Form.{Graph, Form, Sort, param, nought, def, with-next, with-info, with-target}
 use Rattle.definition.specs.Form.{with-params, with-args, with-pending, with-entry, with-own, with-zeros, with-placed, with-recorded}
@@ -63,6 +64,15 @@ place-block b s = with-placed s (if has b (s .placed) then s .placed else s .pla
 abbrev pub log-zero : ℕ → Block → Form → Form
 log-zero c b s = with-zeros s (s .zeros ∷ʳ (c, b))
 
+-- the value from which a zero is made, where it takes two steps
+abbrev pub emit-step : Option ℕ → Block → Form → Form
+emit-step none b s = s
+emit-step (some ty) b s = make nought ty b s
+
+-- a zero of this type in block b; where that takes two steps, the second is the zero
+abbrev pub emit-zero : ℕ → Block → Form → Got
+emit-zero ty b s = let s′ = emit-step (step-of ty) b s in (s′ .next, make nought ty b s′)
+
 -- record_stack_map_binding: v receives x, so stack maps must have x if v is marked
 abbrev pub record-binding : Graph → Variable → Value → Form → Form
 record-binding g v x s = with-recorded s (if g .marks v then put x true (s .recorded) else s .recorded)
@@ -101,8 +111,8 @@ feed-all g b (p ∷ ps) (r ∷ rs) us = feed-all g b ps rs (feed p b r (g .dests
 -- P4: x removed, the paper tries the parameters again that took x; here they stay as they are.
 abbrev pub settle-left : Graph → Block → Value → List Value → Form → List Value → Got
 settle-left g b x rs s [] =
-    let z = s .next in
-    (z, alias b x z (make nought (s .info x .type) b (log-zero (g .call) b (place-block b s))))
+    let z = emit-zero (s .info x .type) b (log-zero (g .call) b (place-block b s)) in
+    (z .0, alias b x (z .0) (z .1))
 settle-left g b x rs s (y ∷ ys) =
     if every (eqb y) ys then (y, alias b x y s) else (x, with-args s (feed-all g b (g .preds b) rs (s .args)))
 

@@ -11,8 +11,9 @@
 -- Assumes nothing.
 use mathlib.Core.Path.{_≡_, refl}
 use mathlib.Core.List.{List, [], _∷_, _++_, map}
+use Rattle.entity.specs.Types.{i32}
 use Rattle.definition.specs.Session.{Call, session}
-use Rattle.definition.specs.Calls.{declare-var, define, use-var, drop-pred, seal, seal-all, blocks, sets, jumps, i32}
+use Rattle.definition.specs.Calls.{declare-var, define, use-var, drop-pred, seal, seal-all, blocks, sets, jumps}
 use Rattle.definition.specs.Tables.{Tables, tables}
 
 unfoldable pub cases : List (List Call)

@@ -158,10 +158,17 @@ pub fn value(form: &[u32], i: usize) -> Numbers {
     }
 }
 
-// Value i, its sort, and the bits of its type's unset value, which a zero holds.
+// Value i, its sort, and the bits of its type's unset value, which a zero holds: the low 64 and the high 64.
 pub fn bits(form: &[u32], i: usize) -> Numbers {
     let d = Described::from_cell(raw(form, layout::DESCRIBED, i));
-    three(i, wide(d.sort), Type::unset_bits_with(d.ty) as usize)
+    let bits = Type(d.ty).unset_bits();
+    Numbers {
+        a: i,
+        b: wide(d.sort),
+        c: bits.low as usize,
+        d: bits.high as usize,
+        e: 0,
+    }
 }
 
 // Destination j of block i: its place, and the block that it names.

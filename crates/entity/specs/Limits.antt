@@ -18,13 +18,13 @@ abbrev pub row-cells : ℕ → ℕ
 row-cells n = suc n
 
 module _ (l : Limits) where
-  -- a variable causes at most one zero per block
+  -- a variable causes at most one zero per block, which is one row of the log
   abbrev pub zero-room : ℕ
   zero-room = l .blocks * l .variables
 
-  -- and at most one parameter per block
+  -- and three values: a parameter, and the zero in at most two steps
   abbrev pub value-room : ℕ
-  value-room = l .made + 2 * zero-room
+  value-room = l .made + 3 * zero-room
 
   -- variables pending in a block
   abbrev pub wait-room : ℕ

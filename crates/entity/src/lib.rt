@@ -3,7 +3,7 @@ ghost use mathlib.Core.Path.{_≡_};
 ghost use lib.Dec.{eqb, ltb};
 ghost use Rattle.entity.specs.Described.{Fits, Parts, packed, mark-of, with-mark};
 ghost use Rattle.entity.specs.Host.{In-force, Needed};
-ghost use Rattle.entity.specs.Types.{number-of, type-count, type-with, unset-of, unset-with, width-of};
+ghost use Rattle.entity.specs.Types.{Shaped, Unset, known-number, lane-of, lanes-of, number-found, plus-one, step-of, type-count, width-of};
 
 // Four kinds of number, each a type of its own, so that one can't be taken for another.
 pub struct Block(pub u32);
@@ -26,14 +26,8 @@ pub enum OptionBlock {
     None,
 }
 
-pub enum Type {
-    I8,
-    I16,
-    I32,
-    I64,
-    F32,
-    F64,
-}
+// A type is its number. A number past the table names none: it has no lane, no width and no bits.
+pub struct Type(pub u32);
 
 // What a number names.
 pub enum Found {
@@ -41,8 +35,108 @@ pub enum Found {
     Nothing,
 }
 
+// What there is to know of a type: its number; the number of its lane's type (its own, unless it is a vector); how many lanes it has; its width in bytes; where
+// its zero takes two steps, the number of the first one's type plus one, else 0; the bits of its unset value, the low 64 and the high 64.
+struct Shape(u32, u32, u32, u32, u32, u64, u64);
+
+// Quiet NaNs side by side: two of 16 bits; then 64 bits of four, of two of 32, of one of 64, and the top of one of 128.
+const D16: u64 = 0x7E00_7E00;
+
+const Q16: u64 = 0x7E00_7E00_7E00_7E00;
+
+const Q32: u64 = 0x7FC0_0000_7FC0_0000;
+
+const Q64: u64 = 0x7FF8_0000_0000_0000;
+
+const Q128: u64 = 0x7FFF_8000_0000_0000;
+
+// The types, in the order of their numbers: to add one, write its line here and in specs/Types.antt, its name and the count below.
+const SHAPES: [Shape; Type::COUNT as usize] = [
+    Shape(Type::I8.0, Type::I8.0, 1, 1, 0, 0, 0),
+    Shape(Type::I16.0, Type::I16.0, 1, 2, 0, 0, 0),
+    Shape(Type::I32.0, Type::I32.0, 1, 4, 0, 0, 0),
+    Shape(Type::I64.0, Type::I64.0, 1, 8, 0, 0, 0),
+    Shape(Type::F32.0, Type::F32.0, 1, 4, 0, 0x7FC0_0000, 0),
+    Shape(Type::F64.0, Type::F64.0, 1, 8, 0, Q64, 0),
+    Shape(Type::I128.0, Type::I128.0, 1, 16, 1 + Type::I64.0, 0, 0),
+    Shape(Type::F16.0, Type::F16.0, 1, 2, 0, 0x7E00, 0),
+    Shape(Type::F128.0, Type::F128.0, 1, 16, 0, 0, Q128),
+    Shape(Type::I8X2.0, Type::I8.0, 2, 2, 0, 0, 0),
+    Shape(Type::I8X4.0, Type::I8.0, 4, 4, 0, 0, 0),
+    Shape(Type::I8X8.0, Type::I8.0, 8, 8, 0, 0, 0),
+    Shape(Type::I8X16.0, Type::I8.0, 16, 16, 0, 0, 0),
+    Shape(Type::I16X2.0, Type::I16.0, 2, 4, 0, 0, 0),
+    Shape(Type::I16X4.0, Type::I16.0, 4, 8, 0, 0, 0),
+    Shape(Type::I16X8.0, Type::I16.0, 8, 16, 0, 0, 0),
+    Shape(Type::I32X2.0, Type::I32.0, 2, 8, 0, 0, 0),
+    Shape(Type::I32X4.0, Type::I32.0, 4, 16, 0, 0, 0),
+    Shape(Type::I64X2.0, Type::I64.0, 2, 16, 0, 0, 0),
+    Shape(Type::F16X2.0, Type::F16.0, 2, 4, 1 + Type::F16.0, D16, 0),
+    Shape(Type::F16X4.0, Type::F16.0, 4, 8, 1 + Type::F16.0, Q16, 0),
+    Shape(Type::F16X8.0, Type::F16.0, 8, 16, 1 + Type::F16.0, Q16, Q16),
+    Shape(Type::F32X2.0, Type::F32.0, 2, 8, 1 + Type::F32.0, Q32, 0),
+    Shape(Type::F32X4.0, Type::F32.0, 4, 16, 1 + Type::F32.0, Q32, Q32),
+    Shape(Type::F64X2.0, Type::F64.0, 2, 16, 1 + Type::F64.0, Q64, Q64),
+];
+
+// Up to 128 bits.
+pub struct Bits {
+    pub low: u64,
+    pub high: u64,
+}
+
 impl Type {
-    pub const COUNT: u32 = 6;
+    pub const COUNT: u32 = 25;
+
+    pub const I8: Type = Type(0);
+
+    pub const I16: Type = Type(1);
+
+    pub const I32: Type = Type(2);
+
+    pub const I64: Type = Type(3);
+
+    pub const F32: Type = Type(4);
+
+    pub const F64: Type = Type(5);
+
+    pub const I128: Type = Type(6);
+
+    pub const F16: Type = Type(7);
+
+    pub const F128: Type = Type(8);
+
+    pub const I8X2: Type = Type(9);
+
+    pub const I8X4: Type = Type(10);
+
+    pub const I8X8: Type = Type(11);
+
+    pub const I8X16: Type = Type(12);
+
+    pub const I16X2: Type = Type(13);
+
+    pub const I16X4: Type = Type(14);
+
+    pub const I16X8: Type = Type(15);
+
+    pub const I32X2: Type = Type(16);
+
+    pub const I32X4: Type = Type(17);
+
+    pub const I64X2: Type = Type(18);
+
+    pub const F16X2: Type = Type(19);
+
+    pub const F16X4: Type = Type(20);
+
+    pub const F16X8: Type = Type(21);
+
+    pub const F32X2: Type = Type(22);
+
+    pub const F32X4: Type = Type(23);
+
+    pub const F64X2: Type = Type(24);
 
     // Does this number name a type? The types are numbered from 0, without a gap.
     pub fn known(n: u32) -> bool
@@ -52,67 +146,78 @@ impl Type {
     }
 
     pub fn from_number(n: u32) -> Found
-        ensures { λ r. ⌜ r ≡ type-with n ⌝ }
+        ensures { λ r. ⌜ number-found r ≡ known-number n ⌝ }
     {
-        match n {
-            0 => Found::Is(Type::I8),
-            1 => Found::Is(Type::I16),
-            2 => Found::Is(Type::I32),
-            3 => Found::Is(Type::I64),
-            4 => Found::Is(Type::F32),
-            5 => Found::Is(Type::F64),
-            _ => Found::Nothing,
+        if n < Type::COUNT {
+            Found::Is(Type(n))
+        } else {
+            Found::Nothing
         }
     }
 
     pub fn number(self) -> u32
-        ensures { λ r. ⌜ r ≡ number-of self ⌝ }
+        ensures { λ r. ⌜ r ≡ self .0 ⌝ }
     {
-        match self {
-            Type::I8 => 0,
-            Type::I16 => 1,
-            Type::I32 => 2,
-            Type::I64 => 3,
-            Type::F32 => 4,
-            Type::F64 => 5,
+        self.0
+    }
+
+    fn shape(self) -> Shape
+        ensures { λ r. ⌜ Shaped (self .0) r ⌝ }
+    {
+        if self.0 < Type::COUNT {
+            SHAPES[self.0 as usize]
+        } else {
+            Shape(self.0, 0, 0, 0, 0, 0, 0)
         }
+    }
+
+    // The type of each lane; a type that is no vector is its own.
+    pub fn lane(self) -> Type
+        ensures { λ r. ⌜ r .0 ≡ lane-of (self .0) ⌝ }
+    {
+        Type(self.shape().1)
+    }
+
+    pub fn lanes(self) -> u32
+        ensures { λ r. ⌜ r ≡ lanes-of (self .0) ⌝ }
+    {
+        self.shape().2
     }
 
     // In bytes.
     pub fn width(self) -> u32
-        ensures { λ r. ⌜ r ≡ width-of self ⌝ }
+        ensures { λ r. ⌜ r ≡ width-of (self .0) ⌝ }
     {
-        match self {
-            Type::I8 => 1,
-            Type::I16 => 2,
-            Type::I32 => 4,
-            Type::I64 => 8,
-            Type::F32 => 4,
-            Type::F64 => 8,
+        self.shape().3
+    }
+
+    // A zero of this type is one constant, or is made in two steps: then this is the number of the first one's type plus one, else 0.
+    pub fn step_plus_one(self) -> u32
+        ensures { λ r. ⌜ r ≡ plus-one (step-of (self .0)) ⌝ }
+    {
+        self.shape().4
+    }
+
+    // The type of the first of two steps.
+    pub fn step(self) -> Found
+        ensures { λ r. ⌜ number-found r ≡ step-of (self .0) ⌝ }
+    {
+        let s = self.step_plus_one();
+        if s == 0 {
+            Found::Nothing
+        } else {
+            Found::Is(Type(s - 1))
         }
     }
 
-    // The bits of the type's unset value: a zero of this type holds them. A float's are a quiet NaN.
-    pub fn unset_bits(self) -> u64
-        ensures { λ r. ⌜ r ≡ unset-of self ⌝ }
+    // The bits of the type's unset value: a zero of this type holds them. In each lane of a float they are a quiet NaN.
+    pub fn unset_bits(self) -> Bits
+        ensures { λ r. ⌜ Unset (self .0) (r .low) (r .high) ⌝ }
     {
-        match self {
-            Type::I8 => 0,
-            Type::I16 => 0,
-            Type::I32 => 0,
-            Type::I64 => 0,
-            Type::F32 => 0x7FC0_0000,
-            Type::F64 => 0x7FF8_0000_0000_0000,
-        }
-    }
-
-    // The same by the type's number; 0 for a number that names no type.
-    pub fn unset_bits_with(n: u32) -> u64
-        ensures { λ r. ⌜ r ≡ unset-with n ⌝ }
-    {
-        match Type::from_number(n) {
-            Found::Is(t) => t.unset_bits(),
-            Found::Nothing => 0,
+        let s = self.shape();
+        Bits {
+            low: s.5,
+            high: s.6,
         }
     }
 }
@@ -186,7 +291,7 @@ pub const CALLS: u32 = 16384;
 // The rooms that follow, as specs/Limits.antt works them out and says why.
 pub const ZERO_ROOM: usize = BLOCKS as usize * VARIABLES as usize;
 
-pub const VALUE_ROOM: usize = MADE as usize + 2 * ZERO_ROOM;
+pub const VALUE_ROOM: usize = MADE as usize + 3 * ZERO_ROOM;
 
 pub const WAIT_ROOM: usize = VARIABLES as usize;
 

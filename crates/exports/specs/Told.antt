@@ -1,14 +1,17 @@
--- What a host is told of the library that it has linked: a version, the limits, the needs, and how many kinds, types and sorts there are.
+-- What a host is told of the library that it has linked: a version, the limits, the needs, how many kinds, types and sorts there are, and of a type all that
+-- there is to know.
 -- Assumes nothing.
 use Prim.Native.Nat.{ℕ}
+use mathlib.Core.Path.{_≡_}
 use mathlib.Core.List.{List, [], _∷_}
 use lib.ListN.{getD}
 use Rattle.entity.specs.Limits.{limits, graph-need, form-need, work-need}
-use Rattle.entity.specs.Types.{type-count}
+use Rattle.entity.specs.Types.{Unset, lane-of, lanes-of, plus-one, step-of, type-count, width-of}
+use Rattle.exports.specs.declared.SangvirebType.{SangvirebType}
 
 -- rises when an exported call takes, answers or leaves something else, or has another name, or when what it leaves stands for something else
 abbrev pub version : ℕ
-version = 5
+version = 6
 
 -- kinds of call are numbered from 1 to this
 abbrev pub kind-count : ℕ
@@ -38,3 +41,11 @@ all-told =
 -- what stands at this place, 0 for any other
 abbrev pub told : ℕ → ℕ
 told which = getD all-told which 0
+
+-- of type n
+pub record Type-told (n : ℕ) (r : SangvirebType) : Type 0 where
+  pub lane : r .lane ≡ lane-of n
+  pub lanes : r .lanes ≡ lanes-of n
+  pub width : r .width ≡ width-of n
+  pub step : r .step ≡ plus-one (step-of n)
+  pub unset : Unset n (r .low) (r .high)

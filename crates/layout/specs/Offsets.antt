@@ -23,7 +23,7 @@ graph-starts = refl
 -- values, made values, target, description, placed, zero calls, zero blocks, parameters, caller's parameters, pending variables,
 -- last definitions, arguments
 form-starts : starts form-sizes
-    ≡ 0 ∷ 1 ∷ 2 ∷ 12290 ∷ 24578 ∷ 24643 ∷ 28740 ∷ 32837 ∷ 41093 ∷ 41157 ∷ 45317 ∷ 49413 ∷ 115461 ∷ []
+    ≡ 0 ∷ 1 ∷ 2 ∷ 16386 ∷ 32770 ∷ 32835 ∷ 36932 ∷ 41029 ∷ 49285 ∷ 49349 ∷ 53509 ∷ 57605 ∷ 123653 ∷ []
 form-starts = refl
 
 -- scheduled calls' values, their blocks, results

@@ -10,10 +10,11 @@ use lib.Dec.{eqb}
 use lib.ListN.{length, take}
 use native.Mathlib.Omega.{arith}
 use native.Mathlib.Nat.{le-trans}
+use Rattle.entity.specs.Types.{step-of}
 use Rattle.definition.specs.Base.{put, put₂, orElse, _∷ʳ_, has, every, without, before}
-use Rattle.definition.specs.Form.{Graph, Form, Info, Sort, param, def, with-args}
+use Rattle.definition.specs.Form.{Graph, Form, Info, Sort, param, nought, def, with-args}
 use Rattle.definition.specs.Read.{Got, resolve, type-of, mark, make, alias, feed-all, new-param, settle-left, single, Walk, stop, on-to, past, walk}
-use Rattle.definition.specs.Read.{read-all, fill, begin, read-past, read-on, read, depth, set-pending, settle-pending}
+use Rattle.definition.specs.Read.{place-block, log-zero, emit-step, read-all, fill, begin, read-past, read-on, read, depth, set-pending, settle-pending}
 use Rattle.definition.specs.Session.{mark-sealed, seal-form, seal-each}
 use Rattle.meaning.specs.Path.{In}
 use Rattle.meaning.specs.Machine.{Task, look, finish, Conf, open-param, find, visit, turn, turns}
@@ -107,8 +108,15 @@ module _ (g : Graph) where
     alone = λ k h. record { below = λ w c x q. le-trans (h .below w c x q) (omega arith); one = h .one };
   }
 
+  step-binds : (o : Option ℕ) (b : ℕ) (s : Form) → Binds g s (emit-step o b s)
+  step-binds none b s = binds-refl g s
+  step-binds (some ty) b s = make-binds nought ty b s
+
   pub settle-binds : (b x : ℕ) (rs : List ℕ) (s : Form) (left : List ℕ) → Binds g s (settle-left g b x rs s left .1)
-  settle-binds b x rs s [] = make-binds _ (s .info x .type) b s
+  settle-binds b x rs s [] =
+      let s₀ = log-zero (g .call) b (place-block b s) in
+      let s₁ = emit-step (step-of (s .info x .type)) b s₀ in
+      binds-trans g s s₁ (make nought (s .info x .type) b s₁) (step-binds (step-of (s .info x .type)) b s₀) (make-binds _ (s .info x .type) b s₁)
   settle-binds b x rs s (y ∷ ys) = by (every (eqb y) ys)
     where
       by : (z : Bool) → Binds g s (cond {A = Got} z (y, alias b x y s) (x, with-args s (feed-all g b (g .preds b) rs (s .args))) .1)

@@ -1,5 +1,4 @@
--- Unset values by bits: every type's number in the tables is below the count of types, so it names a type; where a path enters a block, its zeros are set;
--- and a variable that no act gives anything holds what it held at the start.
+-- Unset values by bits: every type's number in the tables is below the count of types; where a path enters a block, its zeros are set; and a variable that no act gives anything holds what it held at the start.
 -- Assumes nothing.
 use Prim.Native.Nat.{ℕ, suc}
 use mathlib.Core.Path.{_≡_, refl, ap, _∙_}
@@ -8,8 +7,7 @@ use mathlib.Core.List.{List, [], _∷_}
 use lib.ListN.{length}
 use native.Mathlib.Omega.{arith}
 use borrow.Author.Tests.{eq-eqb}
-use Rattle.entity.specs.Types.{unset-found, unset-with}
-use Rattle.entity.proofs.Laws.{known-found}
+use Rattle.entity.specs.Types.{unset-of}
 use Rattle.definition.specs.Form.{nought}
 use Rattle.definition.specs.Read.{type-of}
 use Rattle.definition.specs.Session.{Call, State, session}
@@ -44,18 +42,15 @@ module _ (W : Type 0) (null : ℕ → W) (t : State) (v : ℕ) where
 
 -- what a variable last received is its type's unset value where it received nothing, so what holds the former holds the latter
 pub shows : (t : State) → Faithful-bits t → Unset-shows t
-shows t f fresh any bs b m at before after v x e passed here ty k =
+shows t f fresh any bs b m at before after v x e passed here =
     f fresh any bs b m at before after v x e
-    ∙ same-after ℕ unset-with t v (fresh (length bs)) before m here
-    ∙ still-unset ℕ unset-with t v at passed
-    ∙ ap unset-found k
+    ∙ same-after ℕ unset-of t v (fresh (length bs)) before m here
+    ∙ still-unset ℕ unset-of t v at passed
 
 pub zeros-typed : (cs : List Call) → Zeros-typed (session cs)
 zeros-typed cs =
     let t = session cs in
     record {
-      zeros = λ z l s. let k = known-found (t .form .info z .type) (stored cs .info z l .1) in
-          (k .0, k .1, λ fresh any bs m at. entered ℕ unset-with t at z s refl ∙ ap unset-found (k .1));
-      variables = λ v l. let k = known-found (type-of (t .graph) v) (stored cs .types v l) in
-          (k .0, k .1, λ fresh any m at. started ℕ unset-with t at refl v ∙ ap unset-found (k .1));
+      zeros = λ z l s. (stored cs .info z l .1, λ fresh any bs m at. entered ℕ unset-of t at z s refl);
+      variables = λ v l. (stored cs .types v l, λ fresh any m at. started ℕ unset-of t at refl v);
     }

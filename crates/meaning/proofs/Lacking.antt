@@ -9,11 +9,13 @@ use mathlib.Core.List.{List, [], _∷_}
 use lib.Dec.{eqb}
 use native.Mathlib.Omega.{arith}
 use Rattle.entity.specs.Limits.{limits, zero-room}
+use Rattle.entity.specs.Types.{step-of}
 use Rattle.definition.specs.Base.{put₂, orElse, every}
 use Rattle.definition.specs.Form.{Form, Graph, def, with-args}
-use Rattle.definition.specs.Read.{new-param, settle-left, mark, Got, alias, feed-all, write}
+use Rattle.definition.specs.Read.{new-param, settle-left, mark, Got, alias, feed-all, write, log-zero, place-block}
 use Rattle.meaning.proofs.Sums.{sum, sum-most, sum-le, sum-more}
 use Rattle.meaning.proofs.Maps.{put₂-at, put₂-other, here?}
+use Rattle.meaning.proofs.Emit.{emit-is}
 
 -- a definition is recorded
 abbrev pub Has : Option ℕ → Type 0
@@ -108,7 +110,7 @@ mark-somes v x (c ∷ bs) s w b h =
     ]) (mark-somes v x bs s w b h)
 
 pub settle-somes : (g : Graph) (b x : ℕ) (rs : List ℕ) (s : Form) (left : List ℕ) → Somes s (settle-left g b x rs s left .1)
-settle-somes g b x rs s [] w c h = h
+settle-somes g b x rs s [] w c h = rw (emit-is (step-of (s .info x .type)) b (log-zero (g .call) b (place-block b s))) h
 settle-somes g b x rs s (y ∷ ys) w c h = by (every (eqb y) ys)
   where
     by : (z : Bool) → Has (def (cond {A = Got} z (y, alias b x y s) (x, with-args s (feed-all g b (g .preds b) rs (s .args))) .1) w c)

@@ -2,6 +2,7 @@
 pub mod Theorems
 -- tests, maps, lists, sums
 pub mod Maps
+pub mod Emit
 pub mod Lists
 pub mod Sums
 -- demand 3: the invariant of reading, what each call does to it, what it means on a path

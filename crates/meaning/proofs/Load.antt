@@ -9,13 +9,15 @@ use lib.Dec.{eqb}
 use lib.ListN.{length, length-append}
 use native.Mathlib.Omega.{arith}
 use Rattle.entity.specs.Limits.{limits, value-room, zero-room}
+use Rattle.entity.specs.Types.{step-of}
 use Rattle.definition.specs.Base.{put, orElse, every, has}
 use Rattle.definition.specs.Form.{Form, Graph, def, with-args}
-use Rattle.definition.specs.Read.{settle-left, Got, alias, write, feed-all}
+use Rattle.definition.specs.Read.{settle-left, Got, alias, log-zero, place-block, write, feed-all}
 use Rattle.meaning.proofs.Sums.{sum, sum-change}
 use Rattle.meaning.proofs.Lacking.{Somes, lack-all, all-fewer, Has, all-less, write-somes}
 use Rattle.meaning.proofs.Maps.{put-other, put-same, put₂-at}
 use Rattle.meaning.proofs.Inv.{Work}
+use Rattle.meaning.proofs.Emit.{emit-is, emit-stepped}
 
 -- all pending variables
 abbrev pub waiting : Work → ℕ
@@ -31,7 +33,7 @@ waiting-put ws c l h = omega (
 
 -- where k parameters are at work
 pub record Load (s : Form) (k : ℕ) : Type 0 where
-  pub values : s .next + waiting (s .pending) + 2 * lack-all s + k ≤ s .makes + 2 * zero-room limits
+  pub values : s .next + 2 * waiting (s .pending) + 3 * lack-all s + 2 * k ≤ s .makes + 3 * zero-room limits
   pub zeros : length (s .zeros) + waiting (s .pending) + lack-all s + k ≤ zero-room limits
   pub made : s .makes ≤ limits .made
 
@@ -52,22 +54,30 @@ module _ (s t : Form) (up : Somes s t) (m : t .makes ≡ s .makes) where
       record { values = omega (arith, h .values, n, m, w, f); zeros = omega (arith, h .zeros, ap length z, w, f); made = omega (arith, h .made, m) }
 
   -- a parameter is settled
-  pub load-settle : (k : ℕ) → t .next ≤ suc (s .next) → length (t .zeros) ≤ suc (length (s .zeros)) → t .pending ≡ s .pending → Load s (suc k)
+  pub load-settle : (k : ℕ) → t .next ≤ s .next + 2 → length (t .zeros) ≤ suc (length (s .zeros)) → t .pending ≡ s .pending → Load s (suc k)
       → Load t k
   load-settle k n z p h =
       let w = ap waiting p in
       let f = all-fewer s t up in
       record { values = omega (arith, h .values, n, m, w, f); zeros = omega (arith, h .zeros, z, w, f); made = omega (arith, h .made, m) }
 
--- what settling adds: at most a value and a zero
+-- what settling adds: at most two values and a zero
 pub record Added (s t : Form) : Type 0 where
-  pub next : t .next ≤ suc (s .next)
+  pub next : t .next ≤ s .next + 2
   pub zeros : length (t .zeros) ≤ suc (length (s .zeros))
   pub makes : t .makes ≡ s .makes
   pub pending : t .pending ≡ s .pending
 
 pub settle-adds : (g : Graph) (b x : ℕ) (rs : List ℕ) (s : Form) (left : List ℕ) → Added s (settle-left g b x rs s left .1)
-settle-adds g b x rs s [] = record { next = omega arith; zeros = omega (arith, length-append (s .zeros) ((g .call, b) ∷ [])); makes = refl; pending = refl }
+settle-adds g b x rs s [] =
+    let s₁ = log-zero (g .call) b (place-block b s) in
+    let o = step-of (s .info x .type) in
+    rw (emit-is o b s₁) (record {
+      next = omega (arith, emit-stepped o b s₁ .few);
+      zeros = omega (arith, length-append (s .zeros) ((g .call, b) ∷ []));
+      makes = refl;
+      pending = refl;
+    })
 settle-adds g b x rs s (y ∷ ys) = by (every (eqb y) ys)
   where
     by : (z : Bool) → Added s (cond {A = Got} z (y, alias b x y s) (x, with-args s (feed-all g b (g .preds b) rs (s .args))) .1)
@@ -75,12 +85,12 @@ settle-adds g b x rs s (y ∷ ys) = by (every (eqb y) ys)
     by false = record { next = omega arith; zeros = omega arith; makes = refl; pending = refl }
 
 -- room at a moment: for what is at work
-pub load-next : (s : Form) (k : ℕ) → Load s k → (s .next + k ≤ value-room limits) × (length (s .zeros) + k ≤ zero-room limits)
+pub load-next : (s : Form) (k : ℕ) → Load s k → (s .next + 2 * k ≤ value-room limits) × (length (s .zeros) + k ≤ zero-room limits)
 load-next s k h = (omega (arith, h .values, h .made), omega (arith, h .zeros))
 
--- and before a new parameter for v on c: two more values, one more zero
+-- and before a new parameter for v on c: three more values, one more zero
 pub load-param : (s : Form) (k v c : ℕ) → Load s k → v < limits .variables → c < limits .blocks → def s v c ≡ none
-    → (s .next + k + 2 ≤ value-room limits) × (length (s .zeros) + k + 1 ≤ zero-room limits)
+    → (s .next + 2 * k + 3 ≤ value-room limits) × (length (s .zeros) + k + 1 ≤ zero-room limits)
 load-param s k v c h lv lc lack =
     let f = all-less s (write v c 0 s) (write-somes s v c 0) v c lack has-it lv lc in
     (omega (arith, h .values, h .made, f), omega (arith, h .zeros, f))

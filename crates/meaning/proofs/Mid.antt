@@ -239,7 +239,7 @@ module _ (g : Graph) (G : Sound g) (B : Bounds g) (v : ℕ) (lv : v < length (g 
         rng : Ranged g (settle g b x (reverse (take (length (g .preds b)) rs)) s .1)
             × (settle g b x (reverse (take (length (g .preds b)) rs)) s .0 < settle g b x (reverse (take (length (g .preds b)) rs)) s .1 .next)
         rng = settle-ranged g s (h .rest .ranged) b x (B .shut b (h .sane .0))
-            (h .rest .inv .listed .pars b x (top-built g v later k x b ts (length rs) s h)) (h .rest .inv .aliased .fresh (s .next) (omega arith)) qs
+            (h .rest .inv .listed .pars b x (top-built g v later k x b ts (length rs) s h)) (h .rest .inv .aliased .fresh) qs
             (λ r i. low r (take-in n₂ rs r (reverse-in (take n₂ rs) r i)))
 
         busy : (c : ℕ) → (c ≡ b) ⊎ (c ≢ b) → (put b ((v, x) ∷ op₂ b) op₂ c ≡ []) ⊎ ((u : ℕ) × (s .entry v c ≡ some u))

@@ -1,6 +1,6 @@
 -- What the code of the machine needs at each turn: the turns lead where the run ends, each turn lowers a number, and there is room before
 -- each cell is written. Assumes nothing.
-use Prim.Native.Nat.{ℕ, zero, suc, _<_, _≤_}
+use Prim.Native.Nat.{ℕ, zero, suc, _+_, _<_, _≤_}
 use mathlib.Core.Path.{_≡_, refl, sym, ap, _∙_, subst}
 use mathlib.Core.Bool.{true, false}
 use mathlib.Core.List.{List, [], _∷_, _++_, append-nil}
@@ -87,7 +87,7 @@ pub record Settles (g : Graph) (rs : List ℕ) (s : Form) (x b : ℕ) : Type 0 w
   pub value : x < s .next
   pub param : In x (s .params b)
   pub taken : length (g .preds b) ≤ length rs
-  pub next : s .next < value-room limits
+  pub next : s .next + 2 ≤ value-room limits
   pub zeros : length (s .zeros) < zero-room limits
   pub args : (p i : ℕ) → In p (g .preds b) → i < length (g .dests p) → getD (g .dests p) i 0 ≡ b → length (s .args p i) < param-room limits
 

@@ -6,20 +6,24 @@ use mathlib.Core.Logic.{_⊎_, inl, inr, ⊎-map}
 use mathlib.Core.Bool.{Bool, true, false, cond, _&&_}
 use mathlib.Core.Option.{Option, none, some}
 use mathlib.Core.List.{List, [], _∷_, _++_, map}
-use lib.Dec.{eqb}
+use lib.Dec.{eqb, ltb}
 use lib.ListN.{length, getD}
 use native.Mathlib.Omega.{arith}
 use native.Mathlib.Nat.{le-trans}
 use Rattle.entity.specs.Limits.{limits}
-use Rattle.entity.specs.Types.{type-count}
+use Rattle.entity.specs.Types.{type-count, step-of}
+use Rattle.entity.proofs.Laws.{step-plain}
 use Rattle.definition.specs.Base.{put, put₂, orElse, every, has, without}
 use Rattle.definition.specs.Form.{Graph, Form, Info, param, nought, def, with-args, with-params, with-owns, with-entry, made, caller, with-makes, Sort}
+use Rattle.definition.specs.Form.{with-next, with-info}
 use Rattle.definition.specs.Read.{Got, resolve, follow, type-of, mark-one, mark, alias, is-dest, feed, feed-all, settle-left, settle, place-block, make, write, record-binding}
+use Rattle.definition.specs.Read.{emit-step, log-zero}
 use Rattle.meaning.specs.Path.{In}
 use Rattle.meaning.specs.Stored.{Nodup}
-use Rattle.meaning.proofs.Causing.{Caused, new-caused, entered-caused, wider-caused, aliased-caused}
+use Rattle.meaning.proofs.Causing.{Caused, new-caused, entered-caused, wider-caused, aliased-caused, emitted-caused}
+use Rattle.meaning.proofs.Emit.{zero-info, Stepped, emit-is, emit-stepped}
 use Rattle.meaning.proofs.Growing.{grown}
-use Rattle.meaning.proofs.Maps.{bind-other, same?, put-same, put-other, put-at, put₂-at, put₂-other, here?, false-true, put₂-is}
+use Rattle.meaning.proofs.Maps.{bind-other, same?, put-same, put-other, put-at, put₂-at, put₂-other, here?, false-true, put₂-is, bool?, ltb-yes, ltb-no}
 use Rattle.meaning.proofs.Lists.{nodup-snoc, in-cases, without-in, has-in, in-one, map-in}
 use Rattle.meaning.proofs.Inv.{Grow, Param, nought-param, caller-param, Work}
 
@@ -119,25 +123,42 @@ placed-logs call blocks zeros placed h b lb = by (has b placed) refl
       within = λ c i. elim (in-cases c placed (b ∷ []) i) [ inl j ↦ h .within c j | inr j ↦ rw (in-one c b j) lb ];
     }
 
+-- one more value; t are the targets afterwards
+pub valued-more : {blocks next : ℕ} {info : ℕ → Info} {target : ℕ → ℕ} → Valued blocks info target next → (new : Info) → new .home < blocks
+    → new .type < type-count → (t : ℕ → ℕ) → ((x : ℕ) → x < suc next → t x < suc next) → Valued blocks (put next new info) t (suc next)
+valued-more {blocks} {next} {info} h new lb ty t closed = record {
+  closed = closed;
+  homes = λ x l. elim (same? x next) [
+    | inl e ↦ rw (put-at next new info x e) lb
+    | inr n ↦ rw (put-other next new info x n) (h .homes x (omega arith))
+  ];
+  types = λ x l. elim (same? x next) [
+    | inl e ↦ rw (put-at next new info x e) ty
+    | inr n ↦ rw (put-other next new info x n) (h .types x (omega arith))
+  ];
+}
+
+-- the first step of a zero in b, which is no alias
+valued-step : {blocks next m : ℕ} {info info′ : ℕ → Info} {target : ℕ → ℕ} → Valued blocks info target next → (ty b : ℕ) → b < blocks
+    → Stepped (step-of ty) b next m info info′ → ((x : ℕ) → next ≤ x → target x ≡ x) → Valued blocks info′ target m
+valued-step {blocks} {next} {m} {info} {info′} {target} h ty b lb st fresh = record {
+  closed = λ x l. elim (bool? (ltb x next)) [
+    | inl e ↦ le-trans (h .closed x (ltb-yes x next e)) (st .more)
+    | inr e ↦ rw (fresh x (ltb-no x next e)) l
+  ];
+  homes = λ x l. elim (bool? (ltb x next)) [
+    | inl e ↦ rw (st .old x (ltb-yes x next e)) (h .homes x (ltb-yes x next e))
+    | inr e ↦ rw (st .new x (ltb-no x next e) l .3) lb
+  ];
+  types = λ x l. elim (bool? (ltb x next)) [
+    | inl e ↦ rw (st .old x (ltb-yes x next e)) (h .types x (ltb-yes x next e))
+    | inr e ↦ let k = st .new x (ltb-no x next e) l in rw (k .3) (step-plain ty (k .0) (k .1) .known)
+  ];
+}
+
 module _ (g : Graph) (s : Form) (h : Ranged g s) where
   abbrev types : ℕ
   types = length (g .types)
-
-  -- one more value; t are the targets afterwards
-  pub valued-more : (new : Info) → new .home < g .blocks → new .type < type-count → (t : ℕ → ℕ)
-      → ((x : ℕ) → x < suc (s .next) → t x < suc (s .next))
-      → Valued (g .blocks) (put (s .next) new (s .info)) t (suc (s .next))
-  valued-more new lb ty t closed = record {
-    closed = closed;
-    homes = λ x l. elim (same? x (s .next)) [
-      | inl e ↦ rw (put-at (s .next) new (s .info) x e) lb
-      | inr n ↦ rw (put-other (s .next) new (s .info) x n) (h .valued .homes x (omega arith))
-    ];
-    types = λ x l. elim (same? x (s .next)) [
-      | inl e ↦ rw (put-at (s .next) new (s .info) x e) ty
-      | inr n ↦ rw (put-other (s .next) new (s .info) x n) (h .valued .types x (omega arith))
-    ];
-  }
 
   -- its own target, the others' as they were
   pub closed-more : s .target (s .next) ≡ s .next → (x : ℕ) → x < suc (s .next) → s .target x < suc (s .next)
@@ -183,10 +204,10 @@ module _ (g : Graph) (s : Form) (h : Ranged g s) where
   pub make-ranged : (m y b : ℕ) → b < g .blocks → y < type-count → s .target (s .next) ≡ s .next
       → Ranged g (make made y b (place-block b (with-makes s m)))
   make-ranged m y b lb ly fresh = record {
-    valued = valued-more (record { sort = made; type = y; home = b }) lb ly (s .target) (closed-more fresh);
+    valued = valued-more (h .valued) (record { sort = made; type = y; home = b }) lb ly (s .target) (closed-more fresh);
     recorded = recorded-more (suc (s .next)) (omega arith);
     logs = placed-logs (g .call) (g .blocks) (s .zeros) (s .placed) (h .logs) b lb;
-    caused = new-caused (h .caused) (record { sort = made; type = y; home = b }) (λ q. absurd (made-param q)) (λ q. absurd (made-nought q));
+    caused = new-caused (h .caused) (record { sort = made; type = y; home = b }) (λ q. absurd (made-param q)) made-nought;
     still = h .still;
     unrecorded = λ x l. h .unrecorded x (omega arith);
   }
@@ -201,10 +222,10 @@ module _ (g : Graph) (s : Form) (h : Ranged g s) where
   pub own-ranged : (m y b : ℕ) (ps : ℕ → List ℕ) (os : ℕ → ℕ) → b < g .blocks → y < type-count → s .target (s .next) ≡ s .next
       → Ranged g (with-owns (with-params (make caller y b (with-makes s m)) ps) os)
   own-ranged m y b ps os lb ly fresh = record {
-    valued = valued-more (record { sort = caller; type = y; home = b }) lb ly (s .target) (closed-more fresh);
+    valued = valued-more (h .valued) (record { sort = caller; type = y; home = b }) lb ly (s .target) (closed-more fresh);
     recorded = recorded-more (suc (s .next)) (omega arith);
     logs = h .logs;
-    caused = new-caused (h .caused) (record { sort = caller; type = y; home = b }) (λ q. absurd (caller-param refl q)) (λ q. absurd (caller-nought q));
+    caused = new-caused (h .caused) (record { sort = caller; type = y; home = b }) (λ q. absurd (caller-param refl q)) caller-nought;
     still = h .still;
     unrecorded = λ x l. h .unrecorded x (omega arith);
   }
@@ -269,7 +290,7 @@ module _ (g : Graph) (s : Form) (h : Ranged g s) where
       → s .target (s .next) ≡ s .next
       → Grow s (grown g s v c ws) → ((b : ℕ) → g .sealed b ≡ true → ws b ≡ []) → Ranged g (grown g s v c ws)
   grown-ranged v c ws lv lc ty fresh up quiet = record {
-    valued = valued-more new lc ty (s .target) (closed-more fresh);
+    valued = valued-more (h .valued) new lc ty (s .target) (closed-more fresh);
     recorded = record {
       entries = λ w b e q. elim (put₂-is v c (s .next) (s .entry) w b e q) [ inl k ↦ rw (k .2) (omega arith) | inr o ↦ more .entries w b e o ];
       owns = more .owns;
@@ -277,7 +298,7 @@ module _ (g : Graph) (s : Form) (h : Ranged g s) where
     };
     logs = h .logs;
     caused = new-caused (entered-caused (h .caused) (put₂ v c (some (s .next)) (s .entry)) (up .entry)) new
-        (λ _. (v, lv, put₂-at v c (some (s .next)) (s .entry) v c refl refl)) (λ q. absurd (nought-param q refl));
+        (λ _. (v, lv, put₂-at v c (some (s .next)) (s .entry) v c refl refl)) (λ q. nought-param q refl);
     still = quiet;
     unrecorded = λ y l. bind-other (g .marks v) (s .next) (s .recorded) y (omega arith) ∙ h .unrecorded y (omega arith);
   }
@@ -289,19 +310,22 @@ module _ (g : Graph) (s : Form) (h : Ranged g s) where
       more = recorded-more (suc (s .next)) (omega arith)
 
   -- settling the parameter x of b
-  module _ (b x : ℕ) (lb : b < g .blocks) (par : Param s b x) (fresh : s .target (s .next) ≡ s .next) (rs : List ℕ)
+  module _ (b x : ℕ) (lb : b < g .blocks) (par : Param s b x) (fresh : (y : ℕ) → s .next ≤ y → s .target y ≡ y) (rs : List ℕ)
       (low : (r : ℕ) → In r rs → r < s .next) where
     abbrev Fine : Got → Type 0
     Fine r = Ranged g (r .1) × (r .0 < r .1 .next)
 
-    zero-ranged : Fine (settle-left g b x rs s [])
-    zero-ranged = (
+    -- a zero, in one step or two: its values up to m, and what they are
+    zero-fine : (m : ℕ) (info′ : ℕ → Info) → Stepped (step-of (s .info x .type)) b (s .next) m (s .info) info′
+        → Fine (m, alias b x m (make nought (s .info x .type) b (with-info (with-next (log-zero (g .call) b (place-block b s)) m) info′)))
+    zero-fine m info′ st = (
       record {
-        valued = valued-more new lb (h .valued .types x (par .below)) (put x (s .next) (s .target)) (λ y l. elim (same? y x) [
-          | inl e ↦ rw (put-at x (s .next) (s .target) y e) (omega arith)
-          | inr n ↦ rw (put-other x (s .next) (s .target) y n) (closed-more fresh y l)
-        ]);
-        recorded = recorded-more (suc (s .next)) (omega arith);
+        valued = valued-more (valued-step (h .valued) ty b lb st fresh) (zero-info ty b) lb (h .valued .types x (par .below)) (put x m (s .target))
+            (λ y l. elim (same? y x) [
+              | inl e ↦ rw (put-at x m (s .target) y e) (omega arith)
+              | inr n ↦ rw (put-other x m (s .target) y n) (closed-to y l)
+            ]);
+        recorded = recorded-more (suc m) (omega (arith, st .more));
         logs =
             let l = placed-logs (g .call) (g .blocks) (s .zeros) (s .placed) (h .logs) b lb in
             record {
@@ -310,16 +334,27 @@ module _ (g : Graph) (s : Form) (h : Ranged g s) where
               once = l .once;
               within = l .within;
             };
-        caused = new-caused (aliased-caused (h .caused) x (s .next) (par .root)) new (λ q. absurd (nought-param refl q))
-            (λ _. (x, par .below, par .sort, par .home, put-same x (s .next) (s .target)));
+        caused = emitted-caused (h .caused) x b ty m info′ st (par .below) (par .root) (par .sort) (par .home);
         still = h .still;
         unrecorded = λ y l. h .unrecorded y (omega arith);
       },
       omega arith,
     )
       where
-        new : Info
-        new = record { sort = nought; type = s .info x .type; home = b }
+        ty : ℕ
+        ty = s .info x .type
+
+        closed-to : (y : ℕ) → y < suc m → s .target y < suc m
+        closed-to y l = elim (bool? (ltb y (s .next))) [
+          | inl e ↦ let k = h .valued .closed y (ltb-yes y (s .next) e) in omega (arith, k, st .more)
+          | inr e ↦ rw (fresh y (ltb-no y (s .next) e)) l
+        ]
+
+    zero-ranged : Fine (settle-left g b x rs s [])
+    zero-ranged =
+        let s₁ = log-zero (g .call) b (place-block b s) in
+        let o = step-of (s .info x .type) in
+        rw (emit-is o b s₁) (zero-fine (emit-step o b s₁ .next) (emit-step o b s₁ .info) (emit-stepped o b s₁))
 
     alias-ranged : (y : ℕ) → y < s .next → Fine (y, alias b x y s)
     alias-ranged y ly = (

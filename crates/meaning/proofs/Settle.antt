@@ -4,13 +4,15 @@ use Prim.Native.Nat.{ℕ, suc}
 use mathlib.Core.Path.{_≡_, refl, sym, ap, _∙_, subst}
 use mathlib.Core.Logic.{_≢_, _⊎_, inl, inr}
 use mathlib.Core.Bool.{Bool, true, false, cond}
+use mathlib.Core.Option.{Option, none, some}
 use mathlib.Core.List.{List, [], _∷_, _++_, map}
 use lib.Dec.{eqb}
 use lib.ListN.{length}
 use native.Mathlib.Omega.{arith}
+use Rattle.entity.specs.Types.{step-of}
 use Rattle.definition.specs.Form.{with-zeros, with-placed, with-makes, Graph, Form, Info, nought, caller, with-args}
 use Rattle.definition.specs.Base.{put, without, every}
-use Rattle.definition.specs.Read.{Got, resolve, make, alias, place-block, log-zero, feed-all, settle-left, settle}
+use Rattle.definition.specs.Read.{Got, resolve, make, alias, place-block, log-zero, emit-step, feed-all, settle-left, settle}
 use Rattle.meaning.specs.Path.{In}
 use Rattle.meaning.specs.Stored.{Nodup}
 use Rattle.meaning.proofs.Maps.{put-same, eqb-eq, and-both}
@@ -45,6 +47,20 @@ relog-inv g E z l m s kp op h =
       aliased = h .aliased;
     }
 
+not-caller : nought ≡ caller → ⊥
+not-caller e = let d : _≡_ {A = ℕ} 0 1 = cc in omega arith
+
+-- from s to t all stays, and the invariant holds
+record Stepped-on (g : Graph) (E : Frame) (s : Form) (kp : ℕ → List ℕ) (op : Work) (t : Form) : Type 1 where
+  inv : Inv g E t kp op
+  grow : Grow s t
+
+-- the first step of a zero, if there is one
+step-inv : (g : Graph) (E : Frame) (s : Form) (kp : ℕ → List ℕ) (op : Work) → Inv g E s kp op → (b : ℕ) (o : Option ℕ)
+    → Stepped-on g E s kp op (emit-step o b s)
+step-inv g E s kp op h b none = record { inv = h; grow = grow-refl s }
+step-inv g E s kp op h b (some t) = record { inv = make-inv g E s kp op h nought t b not-caller; grow = make-grow g E s kp op h nought t b not-caller }
+
 module _ (g : Graph) (E : Frame) where
   pub record Settled (s : Form) (op : Work) (x : ℕ) (r : Got) : Type 0 where
     pub kp : ℕ → List ℕ
@@ -78,47 +94,52 @@ module _ (g : Graph) (E : Frame) where
       alike = alias-keep g E s₂ kp op inv₂ v b x ws seal at z z-root differ z (λ e. differ (sym z-now ∙ e)) ∙ z-now ∙ sym x-now;
     }
       where
-        z : ℕ
-        z = s .next
+        ty : ℕ
+        ty = s .info x .type
 
-        new : Info
-        new = record { sort = nought; type = s .info x .type; home = b }
+        s₀ : Form
+        s₀ = log-zero (g .call) b (place-block b s)
 
         s₁ : Form
-        s₁ = log-zero (g .call) b (place-block b s)
+        s₁ = emit-step (step-of ty) b s₀
+
+        z : ℕ
+        z = s₁ .next
+
+        new : Info
+        new = record { sort = nought; type = ty; home = b }
 
         s₂ : Form
-        s₂ = make nought (s .info x .type) b s₁
+        s₂ = make nought ty b s₁
 
         s₃ : Form
         s₃ = alias b x z s₂
 
-        plain : nought ≡ caller → ⊥
-        plain e = let d : _≡_ {A = ℕ} 0 1 = cc in omega arith
-
-        inv₁ : Inv g E s₁ kp op
-        inv₁ = relog-inv g E (s₁ .zeros) (s₁ .placed) (s .makes) s kp op h
+        one : Stepped-on g E s₀ kp op s₁
+        one = step-inv g E s₀ kp op (relog-inv g E (s₀ .zeros) (s₀ .placed) (s .makes) s kp op h) b (step-of ty)
 
         inv₂ : Inv g E s₂ kp op
-        inv₂ = make-inv g E s₁ kp op inv₁ nought (s .info x .type) b plain
+        inv₂ = make-inv g E s₁ kp op (one .inv) nought ty b not-caller
 
-        z-root : s .target z ≡ z
-        z-root = h .aliased .fresh z (omega arith)
+        z-root : s₂ .target z ≡ z
+        z-root = one .inv .aliased .fresh z (omega arith)
 
         differ : z ≢ x
-        differ e = omega (arith, x-is .below)
+        differ e = omega (arith, x-is .below, one .grow .more)
 
         grow₃ : Grow s s₃
-        grow₃ = grow-trans s s₂ s₃ (make-grow g E s₁ kp op inv₁ nought (s .info x .type) b plain) (alias-grow g E s₂ kp op inv₂ v b x ws seal at z z-root differ)
+        grow₃ = grow-trans s s₁ s₃ (one .grow)
+            (grow-trans s₁ s₂ s₃ (make-grow g E s₁ kp op (one .inv) nought ty b not-caller) (alias-grow g E s₂ kp op inv₂ v b x ws seal at z z-root differ))
 
         z-now : resolve s₂ z ≡ z
-        z-now = follow-root (s .target) (suc (s .next)) z z-root
+        z-now = follow-root (s₂ .target) (s₂ .next) z z-root
 
         x-now : resolve s₃ x ≡ z
-        x-now = alias-move g E s₂ kp op inv₂ v b x ws seal at z z-root differ x (follow-root (s .target) (suc (s .next)) x (x-is .root))
+        x-now = alias-move g E s₂ kp op inv₂ v b x ws seal at z z-root differ x
+            (follow-root (s₂ .target) (s₂ .next) x (x-par g E s₂ kp op inv₂ v b x ws seal at .root))
 
         z-info : s₃ .info (resolve s₃ x) ≡ new
-        z-info = ap (s₃ .info) x-now ∙ put-same (s .next) new (s .info)
+        z-info = ap (s₃ .info) x-now ∙ put-same (s₁ .next) new (s₁ .info)
 
     -- one distinct
     one-case : (y : ℕ) → s .target y ≡ y → y ≢ x → (g .preds b ≡ [] → ⊥)

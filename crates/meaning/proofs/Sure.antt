@@ -381,7 +381,7 @@ empty-sure = record {
       valued = record { closed = λ x l. absurd (not-suc-le-zero l); homes = λ x l. absurd (not-suc-le-zero l); types = λ x l. absurd (not-suc-le-zero l) };
       recorded = record { entries = λ w b e q. absurd (some-none q refl); owns = λ w b e q. absurd (some-none q refl); passed = λ p i a k. absurd k };
       logs = record { noted = λ z i. absurd i; once = tt; within = λ b i. absurd i };
-      caused = record { param-of = λ x l. absurd (not-suc-le-zero l); zero-of = λ z l. absurd (not-suc-le-zero l) };
+      caused = record { param-of = λ x l. absurd (not-suc-le-zero l); zero-of = λ z l. absurd (not-suc-le-zero l); step-before = λ z t l. absurd (not-suc-le-zero l) };
       still = λ b z. refl;
       unrecorded = λ x l. refl;
     };

@@ -5,7 +5,7 @@ use mathlib.Core.Bool.{true}
 use mathlib.Core.List.{List, _++_, map}
 use mathlib.Core.Option.{some}
 use lib.ListN.{length, getD}
-use Rattle.entity.specs.Types.{unset-with}
+use Rattle.entity.specs.Types.{unset-of}
 use Rattle.definition.specs.Session.{Call, session, seal-each, answered}
 use Rattle.definition.specs.Resolve.{Resolved, targets}
 use Rattle.definition.specs.Read.{resolve}
@@ -47,14 +47,14 @@ answers-hold = demand-3
 
 -- The same by bits: each answer holds the bits that its variable last received, or those of its type's unset value.
 pub answers-hold-by-bits : (cs : List Call) → Supposed (session cs) → Faithful-bits (session cs)
-answers-hold-by-bits cs S = answers-hold cs S .0 ℕ unset-with
+answers-hold-by-bits cs S = answers-hold cs S .0 ℕ unset-of
 
 -- So where its variable received nothing on the path, the answer holds `unset-of` the variable's type: 0x7FC0_0000 for F32, 0x7FF8_0000_0000_0000 for F64,
 -- 0 for an integer.
 pub unset-shows : (cs : List Call) → Supposed (session cs) → Unset-shows (session cs)
 unset-shows cs S = shows (session cs) (answers-hold-by-bits cs S)
 
--- In every session each zero and each variable has a known type, and these are the bits of that type's unset value.
+-- In every session each value of sort zero, a first step too, and each variable has a known type, and these are the bits of that type's unset value.
 pub zeros-have-bits : (cs : List Call) → Zeros-typed (session cs)
 zeros-have-bits = zeros-typed
 
@@ -119,7 +119,7 @@ callers-stay = still-caller
 pub values-stay : (cs ds : List Call) (x : ℕ) → x < session cs .form .next → session (cs ++ ds) .form .info x ≡ session cs .form .info x
 values-stay cs ds = from-then cs ds .info
 
--- A variable causes at most one parameter and one zero per block.
+-- A variable causes at most one parameter and one zero per block, the zero in at most two steps, of which the first stands directly before it.
 pub causes-once : (cs : List Call) → Once (session cs .graph) (session cs .form)
 causes-once cs = holds cs .once
 

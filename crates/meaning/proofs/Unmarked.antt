@@ -8,12 +8,12 @@ use mathlib.Core.Option.{Option, none, some}
 use mathlib.Core.List.{List, [], _∷_, _++_, map}
 use lib.Dec.{eqb, ltb, leb}
 use lib.ListN.{length, getD}
-use Rattle.entity.specs.Types.{type-count}
+use Rattle.entity.specs.Types.{step-of, type-count}
 use Rattle.entity.specs.Limits.{limits}
 use Rattle.definition.specs.Base.{put, any, is-some, has, every, without, before, upFrom}
-use Rattle.definition.specs.Form.{Graph, Form, def, with-marks, with-recorded, with-args, with-blocks}
+use Rattle.definition.specs.Form.{Graph, Form, nought, def, with-marks, with-recorded, with-args, with-blocks}
 use Rattle.definition.specs.Read.{Got, resolve, type-of, mark, mark-one, alias, place-block, feed, feed-all, new-param, wait, settle-left, single, Walk}
-use Rattle.definition.specs.Read.{on-to, past, walk, read-all, fill, begin, read-past, read-on, read, depth, set-pending, settle-pending}
+use Rattle.definition.specs.Read.{make, log-zero, emit-step, on-to, past, walk, read-all, fill, begin, read-past, read-on, read, depth, set-pending, settle-pending}
 use Rattle.definition.specs.Session.{Call, Done, State, Reply, no, ok, refuse_when_else_, declared-anywhere, no-block, no-var, no-value, no-branch}
 use Rattle.definition.specs.Session.{define, define-answer, mark-sealed, seal-form, seal-each, added, answered, reply, tick, after, step, run, empty, session}
 use Rattle.meaning.specs.Marks.{nothing, unmark, unmark-done, unmarked}
@@ -53,9 +53,15 @@ feed-bare g b [] rs us = refl
 feed-bare g b (p ∷ ps) [] us = refl
 feed-bare g b (p ∷ ps) (r ∷ rs) us = feed-bare g b ps rs (feed p b r (g .dests p) us)
 
+emit-bare : (o : Option ℕ) (b : ℕ) (s : Form) → emit-step o b (bare s) ≡ bare (emit-step o b s)
+emit-bare none b s = refl
+emit-bare (some ty) b s = refl
+
 settle-bare : (g : Graph) (b x : ℕ) (rs : List ℕ) (s : Form) (left : List ℕ)
     → settle-left (bare-graph g) b x rs (bare s) left ≡ bare-got (settle-left g b x rs s left)
-settle-bare g b x rs s [] = refl
+settle-bare g b x rs s [] =
+    let ty = s .info x .type in
+    ap {B = Got} (λ (t : Form). (t .next, alias b x (t .next) (make nought ty b t))) (emit-bare (step-of ty) b (log-zero (g .call) b (place-block b s)))
 settle-bare g b x rs s (y ∷ ys) = by (every (eqb y) ys)
   where
     by : (z : Bool) → cond {A = Got} z (y, alias b x y (bare s)) (x, with-args (bare s) (feed-all (bare-graph g) b (g .preds b) rs (s .args)))

@@ -17,7 +17,7 @@ pub record Holds (g : Graph) (s : Form) : Type 0 where
   pub stored : Stored g s
   -- a caller's parameters stand first and stay
   pub own : Own-first s
-  -- a variable causes at most one parameter and one zero per block
+  -- a variable causes at most one parameter and one zero per block, the zero in at most two steps
   pub once : Once g s
   -- every chain of aliases ends, and the definition resolves as the public resolving does
   pub chains : (x : Value) → x < s .next → Resolved (targets s) x 0 (resolve s x)

@@ -60,9 +60,18 @@ pub fn number(out: &mut [u8], n: usize, x: usize) -> usize {
     text(out, n, &digits[..k])
 }
 
-// In hexadecimal, without leading zeros.
-pub fn hex(out: &mut [u8], n: usize, x: usize) -> usize {
+// In hexadecimal, with no fewer digits than these.
+fn digits(out: &mut [u8], n: usize, x: usize, least: usize) -> usize {
     let mut digits = [0u8; 16];
-    let k = io::hex(x as u64, 1, &mut digits);
+    let k = io::hex(x as u64, least, &mut digits);
     text(out, n, &digits[..k])
+}
+
+// 128 bits in hexadecimal, without leading zeros.
+pub fn hex(out: &mut [u8], n: usize, low: usize, high: usize) -> usize {
+    if high == 0 {
+        return digits(out, n, low, 1);
+    }
+    let m = digits(out, n, high, 1);
+    digits(out, m, low, 16)
 }

@@ -2,8 +2,9 @@
 use crate::out::byte;
 use crate::out::hex;
 use crate::out::number;
+use entity::Type;
 
-// What a text tells. Where it tells a type, c is its number; where it tells bits, c is the bits.
+// What a text tells. Where it tells a type, c is its number; where it tells bits, c has the low 64 and d the high 64.
 pub struct Numbers {
     pub a: usize,
     pub b: usize,
@@ -52,25 +53,33 @@ fn start_of(s: &[u8], k: usize) -> usize {
     i
 }
 
-// Line k as it stands.
-fn line(out: &mut [u8], n: usize, s: &[u8], k: usize) -> usize {
-    let mut m = n;
-    let mut i = start_of(s, k);
-    while i < s.len() {
-        if s[i] == b'\n' {
-            return m;
-        }
-        m = byte(out, m, s[i]);
-        i += 1;
+// A float's unset value has bits set, an integer's has none.
+fn letter(lane: Type) -> u8 {
+    let bits = lane.unset_bits();
+    if bits.low == 0 && bits.high == 0 {
+        return b'I';
     }
-    m
+    b'F'
 }
 
+// A lane's name: what it is, and how many bits it has.
+fn lane_name(out: &mut [u8], n: usize, lane: Type) -> usize {
+    let m = byte(out, n, letter(lane));
+    number(out, m, lane.width() as usize * 8)
+}
+
+// A type's name, from what there is to know of it: the lane's, and for a vector how many lanes.
 fn type_name(out: &mut [u8], n: usize, x: usize) -> usize {
-    if x < 6 {
-        return line(out, n, b"I8\nI16\nI32\nI64\nF32\nF64\n", x);
+    if Type::COUNT as usize <= x {
+        return number(out, n, x);
     }
-    number(out, n, x)
+    let t = Type(x as u32);
+    let m = lane_name(out, n, t.lane());
+    if t.lanes() < 2 {
+        return m;
+    }
+    let k = byte(out, m, b'X');
+    number(out, k, t.lanes() as usize)
 }
 
 // The number that a digit stands for.
@@ -88,7 +97,7 @@ fn piece(out: &mut [u8], n: usize, b: u8, x: Numbers) -> usize {
     match b {
         b'0'..=b'4' => return number(out, n, of_digit(b, x)),
         b'T' => return type_name(out, n, x.c),
-        b'X' => return hex(out, n, x.c),
+        b'X' => return hex(out, n, x.c, x.d),
         b';' => return byte(out, n, b'\n'),
         _ => return byte(out, n, b),
     }

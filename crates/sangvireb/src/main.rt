@@ -19,10 +19,10 @@ S code                      0 run, 2 refused whole: more calls than a session ta
 C counts                    blocks, variables, values, made values, zeros
 A call code number          the answer to a call; code 0 is accepted
 V value sort type block target
-                            sort 0 made, 1 parameter, 2 zero, 3 caller's parameter; the target is the value itself,
-                            or what replaces it
+                            sort 0 made, 1 parameter, 2 zero, 3 caller's parameter; the target is the value itself, or
+                            what replaces it
 K value bits                the bits that a zero holds, in hexadecimal: its type's unset value
-P block values              the block's parameters
+P block values              the block's parameters, the caller's first
 B block count               its branch has so many destinations
 D block place to values     a destination of its branch, with the arguments
 R block blocks              its predecessors

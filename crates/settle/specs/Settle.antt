@@ -1,6 +1,6 @@
 -- What settling a parameter asks of the configuration, and what it leaves and answers.
 -- Assumes nothing.
-use Prim.Native.Nat.{ℕ, _≤_, _<_}
+use Prim.Native.Nat.{ℕ, _+_, _≤_, _<_}
 use mathlib.Core.Path.{_≡_}
 use mathlib.Core.Bool.{true, false, cond}
 use mathlib.Core.List.{List, [], _∷_}
@@ -10,15 +10,16 @@ use Rattle.entity.specs.declared.Value.{Value}
 use Rattle.entity.specs.Limits.{limits, value-room, zero-room, param-room, pred-room, result-room}
 use Rattle.entity.specs.Types.{type-count}
 use Rattle.definition.specs.Base.{has, every}
-use Rattle.definition.specs.Form.{Graph, Form, nought}
-use Rattle.definition.specs.Read.{resolve, is-dest, settle, make, log-zero, place-block}
+use Rattle.definition.specs.Form.{Graph, Form}
+use Rattle.definition.specs.Read.{Got, resolve, is-dest, settle, log-zero, place-block, emit-zero}
 use Rattle.definition.specs.Resolve.{Ends, targets as targets-of}
 use Rattle.meaning.specs.Path.{In}
 use Rattle.meaning.specs.Machine.{Task, conf}
 use Rattle.layout.specs.declared.Counts.{Counts}
+use Rattle.layout.specs.Counts.{with-values}
 use Rattle.layout.specs.Layout.{Shows, Stacks, Shown}
 use Rattle.graph.specs.Seen.{Seen}
-use Rattle.form.specs.Can.{Cells, Can-make, Has-value, Has-params}
+use Rattle.form.specs.Can.{Cells, Has-value, Has-params}
 use Rattle.work.specs.Work.{Can-take, lasts}
 use Rattle.settle.specs.declared.Agreement.{Agreement}
 use Rattle.settle.specs.declared.Finished.{Finished}
@@ -52,19 +53,32 @@ judge (y ∷ ys) = cond (every (eqb y) ys) (Agreement.One (value y)) Agreement.M
 
 -- ---- a zero, another name, arguments
 
--- there is room for one more zero, in block b
+-- there is room in block b for a zero, in one step or two: two values, and no value past the count is an alias yet, nor recorded for stack maps
+pub record Can-emit (fl : List ℕ) (c : Counts) (b : ℕ) (s : Form) : Type 0 where
+  pub shows : Shows fl c s
+  pub known : b < limits .blocks
+  pub room : s .next + 2 ≤ value-room limits
+  pub fresh : (y : ℕ) → s .next ≤ y → s .target y ≡ y
+  pub unrecorded : (y : ℕ) → s .next ≤ y → s .recorded y ≡ false
+
+-- there is room for one more zero, of x's type, in block b
 pub record Can-zero (fl : List ℕ) (c : Counts) (x b : ℕ) (s : Form) : Type 0 where
-  pub make : Can-make fl c s
+  pub emit : Can-emit fl c b s
   pub there : x < s .next
   pub typed : s .info x .type < type-count
-  pub known : b < limits .blocks
   pub log : length (s .zeros) < zero-room limits
   pub placed : length (s .placed) ≤ pred-room limits
   pub place : has b (s .placed) ≡ false → length (s .placed) < pred-room limits
 
--- the next value is a zero of x's type in block b, and call n added it
-abbrev pub zeroed : ℕ → ℕ → ℕ → Form → Form
-zeroed n x b s = make nought (s .info x .type) b (log-zero n b (place-block b s))
+-- a zero of x's type in block b, which call n added
+abbrev pub zeroed : ℕ → ℕ → ℕ → Form → Got
+zeroed n x b s = emit-zero (s .info x .type) b (log-zero n b (place-block b s))
+
+-- the zero is the definition's, and so is what the cells show; the counts are those before, but for the values
+pub record Zeroed (fl : List ℕ) (c : Counts) (r : Finished) (x b : ℕ) (s : Form) : Type 0 where
+  pub val : r .0 .0 ≡ zeroed (c .call) x b s .0
+  pub counts : r .1 ≡ with-values (r .1 .values) c
+  pub shows : Shows fl (r .1) (zeroed (c .call) x b s .1)
 
 -- x can become another name, and leave the parameters of b
 pub record Can-alias (fl : List ℕ) (x b : ℕ) (s : Form) : Type 0 where
@@ -101,9 +115,9 @@ pub record Settles (g : Graph) (x b : ℕ) (s : Form) (rs : List ℕ) : Type 0 w
   pub known : b < g .blocks
   pub there : x < s .next
   pub typed : s .info x .type < type-count
-  pub room : s .next < value-room limits
-  pub fresh : s .target (s .next) ≡ s .next
-  pub unrecorded : s .recorded (s .next) ≡ false
+  pub room : s .next + 2 ≤ value-room limits
+  pub fresh : (y : ℕ) → s .next ≤ y → s .target y ≡ y
+  pub unrecorded : (y : ℕ) → s .next ≤ y → s .recorded y ≡ false
   pub targets : (y : ℕ) → y < s .next → s .target y < s .next
   pub chains : (y : ℕ) → y < s .next → Ends (targets-of s) y (resolve s y)
   pub enough : length (g .preds b) ≤ length rs

@@ -4,18 +4,21 @@ ghost use mathlib.Core.List.{List, map};
 ghost use Prim.Native.Nat.{ℕ, _<_};
 ghost use lib.ListN.{length};
 ghost use Rattle.entity.specs.Limits.{limits, value-room};
+ghost use Rattle.entity.specs.Types.{step-of};
 ghost use Rattle.definition.specs.Base.{without};
 ghost use Rattle.definition.specs.Form.{Graph, Form, with-args};
-ghost use Rattle.definition.specs.Read.{resolve, feed, feed-all, alias as alias-of};
+ghost use Rattle.definition.specs.Read.{resolve, feed, feed-all, emit-step, alias as alias-of};
 ghost use Rattle.meaning.specs.Machine.{Task};
-ghost use Rattle.layout.specs.Counts.{more};
+ghost use Rattle.layout.specs.Counts.{with-values};
 ghost use Rattle.layout.specs.Layout.{Shows};
 ghost use Rattle.form.specs.Can.{Cells, Ex};
 ghost use Rattle.work.specs.Work.{lasts};
 ghost use Rattle.settle.specs.Settle.{Some-with, Both-with, All-with, Can-resolve, Can-agree, judge, Can-feed-branch, Can-feed-all};
-ghost use Rattle.settle.specs.Settle.{Can-zero, zeroed, Can-alias, Can-settle, Settled};
+ghost use Rattle.settle.specs.Settle.{Can-emit, Can-zero, Zeroed, Can-alias, Can-settle, Settled};
 use entity::Block;
 use entity::Branch;
+use entity::Found;
+use entity::Type;
 use entity::Value;
 use layout::Counts;
 use layout::TARGET;
@@ -108,17 +111,32 @@ fn append_arguments(graph: &[u32], form: &mut [u32], work: &[u32], c: Counts, de
     }
 }
 
-// A zero of the sentinel's type in the block, which is placed and logged for it.
-fn emit_zero(form: &mut [u32], c: Counts, sentinel: Value, dest: Block) -> Counts
+// Where a zero of this type takes two steps, the first of them.
+fn emit_step(form: &mut [u32], c: Counts, ty: u32, dest: Block) -> Counts
+    requires { ⌜ Ex (Can-emit (now form) c (dest .0)) ⌝ }
+    ensures { λ r. ⌜ (r ≡ with-values (r .values) c)
+        × ((s : Form) → Can-emit (now (form .entry)) c (dest .0) s → Shows (now (form .exit)) r (emit-step (step-of ty) (dest .0) s)) ⌝ }
+{
+    let step = Type(ty).step();
+    match step {
+        Found::Is(first) => form::make(form, c, form::ZERO, first.0, dest),
+        Found::Nothing => c,
+    }
+}
+
+// A zero of the sentinel's type in the block, which is placed and logged for it: once, however many steps it takes.
+fn emit_zero(form: &mut [u32], c: Counts, sentinel: Value, dest: Block) -> Finished
     requires { ⌜ Ex (Can-zero (now form) c (sentinel .0) (dest .0)) ⌝ }
-    ensures { λ r. ⌜ (r ≡ more c)
-        × ((s : Form) → Can-zero (now (form .entry)) c (sentinel .0) (dest .0) s
-        → Shows (now (form .exit)) (more c) (zeroed (c .call) (sentinel .0) (dest .0) s)) ⌝ }
+    ensures { λ r. ⌜ ((s : Form) → Can-zero (now (form .entry)) c (sentinel .0) (dest .0) s
+        → Zeroed (now (form .exit)) c r (sentinel .0) (dest .0) s) ⌝ }
 {
     let ty = form::value_type(form, sentinel);
     form::place_block(form, dest);
     form::log_zero(form, c, dest);
-    form::make(form, c, form::ZERO, ty, dest)
+    let d = emit_step(form, c, ty, dest);
+    let zero = Value(d.values);
+    let more = form::make(form, d, form::ZERO, ty, dest);
+    Finished(zero, more)
 }
 
 // The parameter leaves its block and becomes another name of the value. What records it or has taken it keeps it.
@@ -150,8 +168,9 @@ pub fn finish_predecessors_lookup(
     let verdict = agree(form, work, c, n, sentinel);
     match verdict {
         Agreement::Nothing => {
-            let zero = Value(c.values);
-            let d = emit_zero(form, c, sentinel, dest);
+            let z = emit_zero(form, c, sentinel, dest);
+            let zero = z.0;
+            let d = z.1;
             replace_param(form, dest, sentinel, zero);
             let e = d.pop_results(n);
             Finished(zero, e)

@@ -82,8 +82,8 @@ module _ (g : Graph) (G : Sound g) (B : Bounds g) (v : ℕ) (lv : v < length (g 
           there = r .value;
           typed = t .info x (r .value) .1;
           room = r .next;
-          fresh = t .unused (s .next) (omega arith);
-          unrecorded = t .unrecorded (s .next) (omega arith);
+          fresh = t .unused;
+          unrecorded = t .unrecorded;
           targets = t .targets;
           chains = chains-end-now g v others k (conf (finish x b ∷ ts) rs s) m;
           enough = r .taken;

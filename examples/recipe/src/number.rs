@@ -16,7 +16,7 @@ impl Number {
     /// What a variable holds that nothing has set, by the library's bits: a NaN for a float, 0 for an int.
     pub fn unset(ty: Type) -> Number {
         match ty {
-            Type::F64 => Float(f64::from_bits(ty.unset_bits())),
+            Type::F64 => Float(f64::from_bits(ty.unset_bits() as u64)),
             _ => Int(ty.unset_bits() as i64),
         }
     }

@@ -16,10 +16,12 @@ emit-zero-requires : tie.Need-emit-zero-requires
 emit-zero-requires c κs = let p = c .before .before .before .before .before .before .before .before .before .pre in (p .1, can-zero _ _ _ _ _ _ _ _ _ _ (p .4))
 
 replace-param-requires : tie.Need-replace-param-requires
-replace-param-requires c κs = (_, can-alias-zero _ _ _ _ _ _ _ _ _ _ (c .before .before .before .before .before .before .before .before .before .before .before .before .before .pre .4) _ (c .before .before .before .emit-zero .ensures .1))
+replace-param-requires c κs = (_, can-alias-zero _ _ _ _ _ _ _ _ _ _ (c .before .before .before .before .before .before .before .before .before .before .before .before .before .before .before .pre .4) _ _ (c .before .before .before .before .before .emit-zero .ensures))
 
 pop-results-requires : tie.Need-pop-results-requires
-pop-results-requires c κs = enough-still _ _ _ _ _ _ _ _ _ _ (c .before .before .before .before .before .before .before .before .before .before .before .before .before .before .before .before .pre .4) _ (c .before .before .before .before .before .before .before .before .before .before .before .before .predecessor-count .ensures .1) _ (c .before .before .before .before .before .before .emit-zero .ensures .0)
+pop-results-requires c κs =
+    let p = c .before .before .before .before .before .before .before .before .before .before .before .before .before .before .before .before .before .before .pre in
+    enough-still _ _ _ _ _ _ _ _ _ _ (p .4) _ (c .before .before .before .before .before .before .before .before .before .before .before .before .before .before .predecessor-count .ensures .1) _ _ (c .before .before .before .before .before .before .before .before .emit-zero .ensures)
 
 replace-param-requires-2 : tie.Need-replace-param-requires-2
 replace-param-requires-2 c κs = let p = c .before .before .before .before .before .before .before .before .before .before .pre in (p .1, can-alias _ _ _ _ _ _ _ _ _ _ (p .4))
@@ -35,8 +37,8 @@ pop-results-requires-3 c κs = enough _ _ _ _ _ _ _ _ _ _ (c .before .before .be
 
 returns : tie.Need-returns
 returns c =
-    λ g s ts rs h. settled-zero _ _ _ _ _ _ g s ts rs h _ (c .before .before .before .before .before .before .before .before .before .before .before .before .before .predecessor-count .ensures .1) _ (c .before .before .before .before .before .before .before .before .before .before .before .agree .ensures) (c .before .before .before .before .before .before .before .before .before .enum-told .given .1) _ _ _ _ refl
-    (c .before .before .before .before .before .before .before .emit-zero .ensures) (c .before .before .before .replace-param .ensures) (c .pop-results .ensures)
+    λ g s ts rs h. settled-zero _ _ _ _ _ _ g s ts rs h _ (c .before .before .before .before .before .before .before .before .before .before .before .before .before .before .before .predecessor-count .ensures .1) _ (c .before .before .before .before .before .before .before .before .before .before .before .before .before .agree .ensures) (c .before .before .before .before .before .before .before .before .before .before .before .enum-told .given .1) _ _ _ _
+    (c .before .before .before .before .before .before .before .before .before .emit-zero .ensures) (c .before .before .before .replace-param .ensures) refl (c .pop-results .ensures)
 
 returns-2 : tie.Need-returns-2
 returns-2 c =
