@@ -16,6 +16,7 @@ WORD = r"[A-Za-z][\w'₀-₉?]*(?:-[\w'₀-₉?]+)+"
 TOKEN = re.compile(r"(?<![\w'₀-₉?-])" + WORD)
 HEAD = re.compile(r"^(\s*)((?:abbrev |unfoldable |pub )*)(record |data )?([^\s:(){}]+(?: [^\s:(){}]+)*?)(?= :| [({:])")
 # Names that stand only where they are bound: parameters, lets and what an import is called.
+LIBRARY = {"drop-cons", "length-append", "get_or-take"}  # the kit's, though a line of a proof begins with them
 LOCAL = "pair-at is-named idle-b Targets-of y-is Shown-graph var-is if-param to-r to-q new-first alias-of own-sources supposed-but".split()
 
 
@@ -61,7 +62,7 @@ def declared():
                 fields.update(names)
             elif len(names) == 1:
                 words.add(names[0])
-    return {w for w in words if "-" in w}, fields
+    return {w for w in words if "-" in w} - LIBRARY, fields
 
 
 def turned(word):

@@ -1,11 +1,13 @@
 // Resolving an alias over a lent list of targets.
+#![tactic(auto)]
+
 ghost use Rattle.std.specs.Prelude.{ℕ};
 ghost use Rattle.definition.specs.Resolve.{Ends, Resolved};
 
 use entity::Value;
 
 // Code 0 with the number found; 6 for a number past the list and 14 for a walk without an end, each with number 0.
-#[derive(Drop)]
+#[derive(Clone, Copy)]
 pub struct Answer {
     pub code: u32,
     pub number: u32,

@@ -6,7 +6,7 @@ use mathlib.Core.Bool.{Bool, true, false, cond}
 use mathlib.Core.Option.{Option, none, some}
 use mathlib.Core.List.{List, [], ◌∷◌, map}
 use lib.Dec.{eqb}
-use lib.ListN.{length, length_append}
+use lib.ListN.{length, length-append}
 use native.Mathlib.Nat.{le_refl, le_trans}
 use native.Mathlib.Omega.{arith}
 use Rattle.entity.specs.Types.{step_of}
@@ -32,7 +32,7 @@ settle_more g b x rs s [] =
     let o = step_of (s.info x).type in
     let s₁ = log_zero g.call b (place_block b s) in
     let same : length (emit_step o b s₁).zeros ≡ length s₁.zeros = ap (λ (t : Form). length t.zeros) (emit_is o b s₁) in
-    subst (λ (n : ℕ). length s.zeros ≤ n) (sym same) (omega (arith, length_append s.zeros ((g.call, b) ∷ [])))
+    subst (λ (n : ℕ). length s.zeros ≤ n) (sym same) (omega (arith, length-append s.zeros ((g.call, b) ∷ [])))
 settle_more g b x rs s (y ∷ ys) = by (every (eqb y) ys)
   where
     by : (z : Bool) → More s (cond {A = Got} z (y, alias b x y s) (x, with_args s (feed_all g b (g.preds b) rs s.args))).1

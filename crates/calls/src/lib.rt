@@ -1,4 +1,6 @@
 // One call over lent cells: each kind has its function, and those that read a variable or seal a block stand here.
+#![tactic(auto)]
+
 ghost use Rattle.std.specs.Prelude.{◌≡◌};
 ghost use Rattle.entity.specs.Options.{value_of};
 ghost use Rattle.definition.specs.Session.{State, use_var, seal, seal_all, answered, reply};

@@ -1,4 +1,6 @@
 // Clearing: a session starts empty, whatever the lent cells held, and leaves its stacks empty.
+#![tactic(auto)]
+
 ghost use Rattle.std.specs.Prelude.{◌++◌, ◌≡◌, ◌≤◌, length, drop};
 ghost use Rattle.entity.specs.Limits.{limits, work_need};
 ghost use Rattle.layout.specs.Layout.{render_work};

@@ -1,4 +1,6 @@
 // The kinds of call that connect blocks, or ask about that: destinations, predecessors. The checks of docs/RULES.md in its order, then the change.
+#![tactic(auto)]
+
 ghost use Rattle.std.specs.Prelude.{◌≡◌, List, ℕ, ◌<◌};
 ghost use Rattle.entity.specs.Limits.{limits};
 ghost use Rattle.definition.specs.Form.{Graph, Form};
@@ -12,7 +14,7 @@ use layout::Counts;
 use reply::Reply;
 
 // What checks say of a call: it may go on, or it is refused with a code.
-#[derive(Drop)]
+#[derive(Clone, Copy)]
 pub enum Check {
     Passed,
     Refused(u32),

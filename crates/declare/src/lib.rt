@@ -1,5 +1,7 @@
 // The kinds of call that bring something in: blocks, variables, values, definitions, branches, a caller's parameters and their arguments, a variable's mark.
 // The checks of docs/RULES.md in its order, then the change.
+#![tactic(auto)]
+
 ghost use Rattle.std.specs.Prelude.{not, ◌||◌, List, ◌≡◌, ℕ, ◌<◌, length};
 ghost use Rattle.entity.specs.Limits.{limits};
 ghost use Rattle.entity.specs.Options.{value_of};

@@ -1,10 +1,12 @@
 // A finished session's tables as a picture: Graphviz's DOT, as text in a lent buffer. The tables may hold anything: what can't be drawn gets a code.
+#![tactic(auto)]
+
 mod text;
 
 ghost use Rattle.draw.specs.Draws.{Draws};
 
 // What a drawing answers: code 0 and the text's length, or another code and 0.
-#[derive(Drop)]
+#[derive(Clone, Copy)]
 pub struct Drawn {
     pub code: u32,
     pub length: usize,

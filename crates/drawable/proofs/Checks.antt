@@ -8,7 +8,7 @@ use native.Mathlib.Numerals.{add-one}
 use native.Mathlib.Omega.{arith}
 use borrow.Author.Tests.{ltb-true, leb-true, lt-ltb, le-leb, lt-leb, eq-eqb, ne_eqb}
 use lib.ListN.{length, get_or, drop, drop_of_length-le}
-use lib.Seq.{drop_cons}
+use lib.Seq.{drop-cons}
 use Rattle.entity.specs.Limits.{limits, value_room, param_room}
 use Rattle.definition.specs.Base.{◌=?◌, ◌<?◌, ◌≤?◌, every, up_from}
 use Rattle.meaning.proofs.Decide.{Decides, turned, both, implied, each}
@@ -32,7 +32,7 @@ module _ (f : ℕ → Bool) where
   -- of a list, from place i on
   module _ (xs : List ℕ) (i : ℕ) where
     from : i < length xs → drop i xs ≡ get_or xs i 0 ∷ drop (i + 1) xs
-    from h = drop_cons xs i 0 h ∙ ap (λ (k : ℕ). get_or xs i 0 ∷ drop k xs) (sym (add-one i))
+    from h = drop-cons xs i 0 h ∙ ap (λ (k : ℕ). get_or xs i 0 ∷ drop k xs) (sym (add-one i))
 
     pub passed_from : i < length xs → f (get_or xs i 0) ≡ true → every f (drop (i + 1) xs) ≡ every f (drop i xs)
     passed_from h = passed (from h)

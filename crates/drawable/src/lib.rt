@@ -1,4 +1,6 @@
 // Can the tables be drawn? Every count that the drawing reads is tested against its limit, and every number against its count.
+#![tactic(auto)]
+
 ghost use Rattle.std.specs.Prelude.{◌≡◌, ◌+◌, ◌<◌, ◌≤◌, length};
 ghost use Rattle.entity.specs.Limits.{limits, zero_room, form_need};
 ghost use Rattle.definition.specs.Base.{◌<?◌, every, up_from};

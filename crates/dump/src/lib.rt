@@ -1,4 +1,6 @@
 // What a session leaves, line by line: in letters, for programs, or in words, for people. A new table takes a function here and two texts in `phrases`.
+#![tactic(auto)]
+
 use crate::cells::{cell, entry};
 use form::ZERO;
 use phrases::out::byte;

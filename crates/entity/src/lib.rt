@@ -1,42 +1,44 @@
 // The numbers that stand for blocks, variables, values and branches; the types; what a value is, in one cell; the limits, and the rooms that follow from them.
+#![tactic(auto)]
+
 ghost use Rattle.std.specs.Prelude.{◌≡◌, eqb, ltb};
 ghost use Rattle.entity.specs.Described.{Fits, Parts, packed, mark_of, with_mark};
 ghost use Rattle.entity.specs.Host.{InForce, Needed};
 ghost use Rattle.entity.specs.Types.{Shaped, Unset, known_number, lane_of, lanes_of, number_found, plus_one, step_of, type_count, width_of};
 
 // Four kinds of number, each a type of its own, so that one can't be taken for another.
-#[derive(Drop)]
+#[derive(Clone, Copy)]
 pub struct Block(pub u32);
 
-#[derive(Drop)]
+#[derive(Clone, Copy)]
 pub struct Variable(pub u32);
 
-#[derive(Drop)]
+#[derive(Clone, Copy)]
 pub struct Value(pub u32);
 
 // A branch bears the number of its block.
-#[derive(Drop)]
+#[derive(Clone, Copy)]
 pub struct Branch(pub u32);
 
 // A value or a block that may be missing, where the original has a `PackedOption`. A cell has its number plus one, 0 for none.
-#[derive(Drop)]
+#[derive(Clone, Copy)]
 pub enum OptionValue {
     Some(Value),
     None,
 }
 
-#[derive(Drop)]
+#[derive(Clone, Copy)]
 pub enum OptionBlock {
     Some(Block),
     None,
 }
 
 // A type is its number. A number past the table names none: it has no lane, no width and no bits.
-#[derive(Drop)]
+#[derive(Clone, Copy)]
 pub struct Type(pub u32);
 
 // What a number names.
-#[derive(Drop)]
+#[derive(Clone, Copy)]
 pub enum Found {
     Is(Type),
     Nothing,
@@ -44,7 +46,7 @@ pub enum Found {
 
 // What there is to know of a type: its number; the number of its lane's type (its own, unless it is a vector); how many lanes it has; its width in bytes; where
 // its zero takes two steps, the number of the first one's type plus one, else 0; the bits of its unset value, the low 64 and the high 64.
-#[derive(Drop)]
+#[derive(Clone, Copy)]
 struct Shape(u32, u32, u32, u32, u32, u64, u64);
 
 // Quiet NaNs side by side: two of 16 bits; then 64 bits of four, of two of 32, of one of 64, and the top of one of 128.
@@ -88,7 +90,7 @@ const SHAPES: [Shape; Type::COUNT as usize] = [
 ];
 
 // Up to 128 bits.
-#[derive(Drop)]
+#[derive(Clone, Copy)]
 pub struct Bits {
     pub low: u64,
     pub high: u64,
@@ -233,7 +235,7 @@ impl Type {
 
 // What a value is: its cell holds the type in the lowest five bits, since the type is read most, then the sort in two and a bit that is the mark: stack maps
 // must have the value. The block stands on top, so that no limit on blocks moves the others.
-#[derive(Drop)]
+#[derive(Clone, Copy)]
 pub struct Described {
     pub ty: u32,
     pub sort: u32,
@@ -348,7 +350,7 @@ pub const FORM_NEED: usize = 2
 
 pub const WORK_NEED: usize = 2 * CALL_ROOM + RESULT_ROOM;
 
-#[derive(Drop)]
+#[derive(Clone, Copy)]
 pub struct Limits {
     pub blocks: u32,
     pub variables: u32,
@@ -374,7 +376,7 @@ impl Limits {
     }
 }
 
-#[derive(Drop)]
+#[derive(Clone, Copy)]
 pub struct Rooms {
     pub values: usize,
     pub zeros: usize,

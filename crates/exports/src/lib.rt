@@ -1,4 +1,6 @@
 // What C and Rust link: the public calls under names of their own.
+#![tactic(auto)]
+
 ghost use Rattle.std.specs.Prelude.{◌≡◌, drop};
 ghost use Rattle.definition.specs.Resolve.{Resolved};
 ghost use Rattle.draw.specs.Draws.{Draws};
@@ -40,7 +42,7 @@ const TOLD: [u32; 13] = [
 
 // Code and number of an answer, as C sees them.
 #[repr(C)]
-#[derive(Drop)]
+#[derive(Clone, Copy)]
 pub struct SangvirebAnswer {
     pub code: u32,
     pub number: u32,
@@ -48,7 +50,7 @@ pub struct SangvirebAnswer {
 
 // Code and length of a picture, as C sees them.
 #[repr(C)]
-#[derive(Drop)]
+#[derive(Clone, Copy)]
 pub struct SangvirebDrawn {
     pub code: u32,
     pub length: usize,
@@ -57,7 +59,7 @@ pub struct SangvirebDrawn {
 // A type, as C sees it: the number of its lane's type, how many lanes, the width in bytes; where a zero takes two steps, the number of the first one's type
 // plus one, else 0; the bits of its unset value, which a zero holds, the low 64 and the high 64.
 #[repr(C)]
-#[derive(Drop)]
+#[derive(Clone, Copy)]
 pub struct SangvirebType {
     pub lane: u32,
     pub lanes: u32,

@@ -5,7 +5,7 @@ use mathlib.Core.Path.{◌≡◌, refl, sym, ap, ◌∙◌}
 use mathlib.Core.List.{List, ◌∷◌}
 use native.Mathlib.Omega.{arith}
 use native.Mathlib.Numerals.{add-one}
-use lib.ListN.{length, get_or, set, length_append}
+use lib.ListN.{length, get_or, set, length-append}
 use lib.Seq.{get_or-append_seam}
 use Rattle.entity.specs.Limits.{limits}
 use Rattle.definition.specs.Base.{put, put₂, ◌∷ʳ◌, without}
@@ -70,13 +70,13 @@ module _ (l : List ℕ) (b i : ℕ) (s : Form) (p : HasParam l b i s) where
 
 module _ (l : List ℕ) (b n x : ℕ) (s : Form) (p : NextParam l b n x s) where
   count_is : get_or l (base form_sizes 7 + b * param_row) 0 ≡ length p.before + n
-  count_is = count l b s p.params ∙ ap length p.split ∙ length_append p.before (x ∷ p.after) ∙ omega (arith, p.count)
+  count_is = count l b s p.params ∙ ap length p.split ∙ length-append p.before (x ∷ p.after) ∙ omega (arith, p.count)
 
   pub next_inside : (n ≤ get_or l (base form_sizes 7 + b * param_row) 0) × (0 < n) × (get_or l (base form_sizes 7 + b * param_row) 0 < param_row)
       × (b < limits.blocks) × (base form_sizes 8 ≤ length l)
   next_inside =
       let few = p.params.few in
-      (omega (arith, count_is), omega (arith, p.count), omega (arith, ap length p.split, length_append p.before (x ∷ p.after), count_is, p.count, few), p.params.known, omega (arith, p.params.cells.long))
+      (omega (arith, count_is), omega (arith, p.count), omega (arith, ap length p.split, length-append p.before (x ∷ p.after), count_is, p.count, few), p.params.known, omega (arith, p.params.cells.long))
 
   pub next_is : get_or l (base form_sizes 7 + b * param_row + 1 + (get_or l (base form_sizes 7 + b * param_row) 0 - n)) 0 ≡ x
   next_is =

@@ -1,4 +1,6 @@
 // The form in lent cells: every read and every change of it. Nothing above this crate mentions its cells.
+#![tactic(auto)]
+
 ghost use Rattle.std.specs.Prelude.{◌≡◌, ℕ, suc, ◌<◌, ◌≤◌, length, get_or};
 ghost use Rattle.entity.specs.Described.{Fits, type_room};
 ghost use Rattle.entity.specs.Limits.{limits, value_room, wait_room};

@@ -8,7 +8,7 @@ use mathlib.Core.List.{List, [], ◌∷◌}
 use native.Mathlib.Numerals.{add-one}
 use native.Mathlib.Omega.{arith}
 use lib.ListN.{length, get_or, drop, drop_of_length-le}
-use lib.Seq.{drop_cons}
+use lib.Seq.{drop-cons}
 use Rattle.definition.specs.Base.{has, any, up_from}
 use Rattle.definition.specs.Form.{Graph}
 use Rattle.definition.specs.Session.{declared_anywhere}
@@ -55,7 +55,7 @@ module _ {cells : List ℕ} (g : Graph) (s : Seen cells g) (p : ℕ) where
 
     module _ (lt : i < length (g.dests p)) (b : ℕ) (at : b ≡ get_or (g.dests p) i 0) where
       here : declared_from g p i ≡ has p (g.preds b) || declared_from g p (i + 1)
-      here = rw (at, add-one i, drop_cons (g.dests p) i 0 lt)
+      here = rw (at, add-one i, drop-cons (g.dests p) i 0 lt)
 
       pub found_here : has p (g.preds b) ≡ true → declared_from g p i ≡ true
       found_here e = here ∙ ap (λ (z : Bool). z || declared_from g p (i + 1)) e

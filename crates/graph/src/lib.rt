@@ -1,6 +1,8 @@
 // The graph in lent cells: blocks, variables' types, branches with their destinations, predecessors, marks of what is sealed or was declared, and of the
 // variables that stack maps must have.
 // Every read and every change of those cells is here, so that what is above speaks of the definition's graph alone.
+#![tactic(auto)]
+
 ghost use Rattle.std.specs.Prelude.{◌≡◌, true, suc, ◌<◌, ◌≤◌, length, get_or};
 ghost use Rattle.entity.specs.Limits.{limits, pred_room};
 ghost use Rattle.entity.specs.Options.{block_of};

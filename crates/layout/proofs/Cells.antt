@@ -11,8 +11,8 @@ use native.Mathlib.Nat.{not-suc-le-zero, le_of_suc-le-suc}
 use lib.Dec.{ltb}
 use borrow.Author.Tests.{ltb-true, ltb-false}
 use borrow.Table.Elements.{take-le}
-use lib.ListN.{length, get_or, set, take, length_append, length-set, get_or-append}
-use lib.Seq.{get_or-set_same, get_or-set_other, get_or-append-add, get_or_take, ext_get_or}
+use lib.ListN.{length, get_or, set, take, length-append, length-set, get_or-append}
+use lib.Seq.{get_or-set_same, get_or-set_other, get_or-append-add, get_or-take, ext_get_or}
 use Rattle.meaning.proofs.Maps.{same?}
 use Rattle.layout.specs.Cells.{Table, blank, sum, base, line, render, Holds}
 
@@ -40,7 +40,7 @@ within (n ∷ ns) (suc t) j h = omega (arith, within ns t j h)
 pub holds_more : (sizes l : List ℕ) (M : List Table) → Holds sizes (take (sum sizes) l) M → Holds sizes l M
 holds_more sizes l M h = record {
   long = omega (arith, h.long, take-le (sum sizes) l);
-  at = λ t j lt. sym (get_or_take (sum sizes) l (base sizes t + j) 0 (within sizes t j lt)) ∙ h.at t j lt;
+  at = λ t j lt. sym (get_or-take (sum sizes) l (base sizes t + j) 0 (within sizes t j lt)) ∙ h.at t j lt;
 }
 
 -- ---- a change within one table
@@ -127,7 +127,7 @@ line_in : (n : ℕ) (f : Table) (r : List ℕ) (i : ℕ) → i < n → get_or (l
 line_in n f r i lt = get_or-append (line n f) r 0 i (rw line_length lt) ∙ line_at n f i lt
 
 line_more : (n m : ℕ) (f : Table) (r : List ℕ) → length r ≡ m → length (line n f ++ r) ≡ n + m
-line_more n m f r e = length_append (line n f) r ∙ omega (arith, line_length n f)
+line_more n m f r e = length-append (line n f) r ∙ omega (arith, line_length n f)
 
 pub render_length : (sizes : List ℕ) (M : List Table) → length (render sizes M) ≡ sum sizes
 unfolding render

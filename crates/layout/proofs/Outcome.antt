@@ -7,7 +7,7 @@ use mathlib.Core.Logic.{inl, inr}
 use mathlib.Core.Bool.{Bool, true, false, cond, ◌&&◌, ◌||◌}
 use mathlib.Core.List.{List, [], ◌∷◌, ◌++◌}
 use native.Mathlib.Omega.{arith}
-use lib.ListN.{length, drop, length_append, length-drop, length-map}
+use lib.ListN.{length, drop, length-append, length-drop, length-map}
 use lib.Seq.{take_at, drop_at}
 use Rattle.entity.specs.Limits.{limits, graph_need, form_need, work_need}
 use Rattle.definition.specs.Base.{◌=?◌, ◌<?◌}
@@ -156,7 +156,7 @@ module _ (ks xs ys zs : List ℕ) where
         )
       where
         one : (n : ℕ) (us old : List ℕ) → length us ≡ n → n ≤ length old → length (us ++ drop n old) ≡ length old
-        one n us old e l = length_append us (drop n old) ∙ omega (arith, length-drop n old)
+        one n us old e l = length-append us (drop n old) ∙ omega (arith, length-drop n old)
 
     -- what holds of lists left as they were, and of those of a session that is run, holds of the outcome
     by_answer : (P : Lent → Type 0) → P t → (Fits ks xs ys zs t → P (left true)) → P (outcome ks xs ys zs t).1

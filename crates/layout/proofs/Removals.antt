@@ -8,7 +8,7 @@ use mathlib.Core.Bool.{cond}
 use mathlib.Core.List.{List, [], ◌∷◌, ◌++◌, append-nil}
 use native.Mathlib.Omega.{arith}
 use lib.Dec.{eqb}
-use lib.ListN.{length, get_or, set, length_append, get_or-append, get_or-eq_default}
+use lib.ListN.{length, get_or, set, length-append, get_or-append, get_or-eq_default}
 use lib.Seq.{get_or-append_seam, append_snoc}
 use Rattle.definition.specs.Base.{put, without}
 use Rattle.meaning.proofs.Maps.{same?, put_other, put_at, eqb_same, eqb_diff}
@@ -38,14 +38,14 @@ module _ (T : Table) (kept : List ℕ) (i : ℕ) where
   sifting_keep : (y : ℕ) (rest : List ℕ) → length kept < i → Sifting T kept i rest → Sifting (put (length kept + 1) y T) (kept ++ y ∷ []) i rest
   sifting_keep y rest lt s = record {
     early = λ j lj. early j lj (same? j (length kept));
-    gap = λ j ge lj. let e = length_append kept (y ∷ []) in put_other (length kept + 1) y T (suc j) (omega (arith, e)) ∙ s.gap j (omega (arith, e)) lj;
+    gap = λ j ge lj. let e = length-append kept (y ∷ []) in put_other (length kept + 1) y T (suc j) (omega (arith, e)) ∙ s.gap j (omega (arith, e)) lj;
     late = λ j. put_other (length kept + 1) y T (suc (i + j)) (omega arith) ∙ s.late j;
   }
     where
       early : (j : ℕ) → j < length (kept ++ y ∷ []) → (j ≡ length kept) ⊎ (j ≢ length kept) → put (length kept + 1) y T (suc j) ≡ get_or (kept ++ y ∷ []) j 0
       early j lj (inl e) = put_at (length kept + 1) y T (suc j) (omega arith) ∙ sym (ap (λ (k : ℕ). get_or (kept ++ y ∷ []) k 0) e ∙ get_or-append_seam kept y [] 0)
       early j lj (inr n) =
-          let lt : j < length kept = omega (arith, length_append kept (y ∷ [])) in
+          let lt : j < length kept = omega (arith, length-append kept (y ∷ [])) in
           put_other (length kept + 1) y T (suc j) (omega arith) ∙ s.early j lt ∙ sym (get_or-append kept (y ∷ []) 0 j lt)
 
   sifting_end : Sifting T kept i [] → (j : ℕ) → put 0 (length kept) T j ≡ cell kept j
@@ -89,7 +89,7 @@ module _ (l : List ℕ) (a w x : ℕ) (fits : a + w ≤ length l) where
           → Changed l (cond (eqb y x) (sift a x (length rest) (i + 1) k l₁) (sift a x (length rest) (i + 1) (k + 1) (set l₁ (a + 1 + k) y))) a w (cell (kept ++ without x (y ∷ rest)))
       by (inl q) rec = rw (q, eqb_same x) (rec kept (i + 1) k l₁ T₁ e (omega arith) (omega arith) c₁ s₁)
       by (inr n) rec =
-          let f : k + 1 ≡ length (kept ++ y ∷ []) = omega (arith, length_append kept (y ∷ [])) in
+          let f : k + 1 ≡ length (kept ++ y ∷ []) = omega (arith, length-append kept (y ∷ [])) in
           rw (eqb_diff y x n, ← append_snoc kept y (without x rest))
           (rec (kept ++ y ∷ []) (i + 1) (k + 1) (set l₁ (a + 1 + k) y) (put (length kept + 1) y T₁) f (omega arith) (omega arith)
           (changed_set c₁ (length kept + 1) (a + 1 + k) y (omega arith) (omega arith) fits) (sifting_keep T₁ kept (i + 1) y rest (omega arith) s₁))

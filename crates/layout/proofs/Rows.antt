@@ -5,8 +5,8 @@ use mathlib.Core.Path.{◌≡◌, refl, sym, ap, ◌∙◌, subst}
 use mathlib.Core.Logic.{◌≢◌, ◌⊎◌, inl, inr}
 use mathlib.Core.List.{List, [], ◌∷◌, ◌++◌}
 use native.Mathlib.Omega.{arith}
-use lib.ListN.{length, get_or, set, drop, length_append, length-drop, length-set, get_or-append, get_or-eq_default}
-use lib.Seq.{get_or-set_same, get_or-set_other, get_or-append_seam, length-take-le, get_or_take, get_or-drop, ext_get_or}
+use lib.ListN.{length, get_or, set, drop, length-append, length-drop, length-set, get_or-append, get_or-eq_default}
+use lib.Seq.{get_or-set_same, get_or-set_other, get_or-append_seam, length-take-le, get_or-take, get_or-drop, ext_get_or}
 use Rattle.entity.specs.Limits.{limits, zero_room}
 use Rattle.definition.specs.Base.{put}
 use Rattle.meaning.proofs.Maps.{same?, put_other, put_at}
@@ -44,7 +44,7 @@ module _ {l l' : List ℕ} {a w : ℕ} {g : Table} (c : Changed l l' a w g) wher
 -- ---- the row of a list, changed
 
 cell_snoc : (xs : List ℕ) (x i : ℕ) → put 0 (length xs + 1) (put (length xs + 1) x (cell xs)) i ≡ cell (xs ++ x ∷ []) i
-cell_snoc xs x zero = rw length_append
+cell_snoc xs x zero = rw length-append
 cell_snoc xs x (suc i) = put_other 0 (length xs + 1) (put (length xs + 1) x (cell xs)) (suc i) (omega arith) ∙ by (same? i (length xs))
   where
     by : (i ≡ length xs) ⊎ (i ≢ length xs) → put (length xs + 1) x (cell xs) (suc i) ≡ get_or (xs ++ x ∷ []) i 0
@@ -53,7 +53,7 @@ cell_snoc xs x (suc i) = put_other 0 (length xs + 1) (put (length xs + 1) x (cel
       where
         side : (i < length xs) ⊎ (length xs ≤ i) → get_or xs i 0 ≡ get_or (xs ++ x ∷ []) i 0
         side (inl l) = sym (get_or-append xs (x ∷ []) 0 i l)
-        side (inr l) = get_or-eq_default xs 0 l ∙ sym (get_or-eq_default (xs ++ x ∷ []) 0 (rw length_append (omega arith)))
+        side (inr l) = get_or-eq_default xs 0 l ∙ sym (get_or-eq_default (xs ++ x ∷ []) 0 (rw length-append (omega arith)))
 
 -- ---- what is in a row
 
@@ -71,7 +71,7 @@ module _ (l : List ℕ) (a w : ℕ) (xs : List ℕ) (r : Row l a w xs) where
   row_entries =
       let long = length-take-le (get_or l a 0) (drop (a + 1) l) (omega (arith, row_count, r.few, r.fits, length-drop (a + 1) l)) in
       ext_get_or 0 (entries l a) xs (long ∙ row_count)
-      (λ i lt. get_or_take (get_or l a 0) (drop (a + 1) l) i 0 (omega (arith, long)) ∙ get_or-drop (a + 1) l i 0 ∙ row_entry i (omega (arith, long, row_count, r.few)))
+      (λ i lt. get_or-take (get_or l a 0) (drop (a + 1) l) i 0 (omega (arith, long)) ∙ get_or-drop (a + 1) l i 0 ∙ row_entry i (omega (arith, long, row_count, r.few)))
 
   pub row_readable : length xs ≤ zero_room limits → Readable l a
   row_readable le = record { there = omega (arith, row_count, r.few, r.fits); few = omega (arith, row_count) }

@@ -1,4 +1,6 @@
 // Which lent cell holds what: where each table starts, and the counts that travel beside the cells. The laws are in proofs/.
+#![tactic(auto)]
+
 ghost use Rattle.std.specs.Prelude.{◌≡◌, ◌<◌, ◌≤◌};
 ghost use Rattle.entity.specs.Limits.{limits, value_room, call_room, result_room};
 ghost use Rattle.layout.specs.Counts.{more, with_values, one_call, call_less, one_result, results_less};
@@ -100,7 +102,7 @@ pub fn work_starts() -> [usize; 4]
 }
 
 // A scheduled call of the lookup machine: read at a branch's block, or settle the parameter of a block by its predecessors' results.
-#[derive(Drop)]
+#[derive(Clone, Copy)]
 pub enum Call {
     UseVar(Branch),
     FinishPredecessorsLookup(Value, Block),
@@ -108,7 +110,7 @@ pub enum Call {
 
 // The heights of the two work stacks, how many values there are, and the number of this call. They travel by value beside the cells.
 // Heights are as wide as a register, so that a push doesn't have to take a pair of them apart.
-#[derive(Drop)]
+#[derive(Clone, Copy)]
 pub struct Counts {
     pub calls: usize,
     pub results: usize,

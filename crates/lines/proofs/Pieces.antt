@@ -9,8 +9,8 @@ use native.Mathlib.Nat.{add-zero, mod-eq_of_lt}
 use native.Mathlib.Numerals.{add-one}
 use native.Mathlib.Omega.{arith}
 use borrow.Author.Tests.{lt-ltb, le-ltb}
-use lib.ListN.{length, get_or, set, take, drop, length_append, drop_of_length-le}
-use lib.Seq.{sets, take-suc, take_all, drop_cons}
+use lib.ListN.{length, get_or, set, take, drop, length-append, drop_of_length-le}
+use lib.Seq.{sets, take-suc, take_all, drop-cons}
 use Rattle.definition.specs.Base.{up_from}
 use Rattle.layout.proofs.Cells.{below?}
 use Rattle.lines.specs.Text.{bytes, digits, decimal, named, each, values, block_line, edge_line}
@@ -23,7 +23,7 @@ module _ (l t : List ℕ) (a : ℕ) where
   pub put_next : (i : ℕ) → i < length t → sets (set l (a + i) (get_or t i 0)) (a + (i + 1)) (drop (i + 1) t) ≡ sets l (a + i) (drop i t)
   put_next i h =
       let e : a + (i + 1) ≡ suc (a + i) = omega arith in
-      sym (ap (sets l (a + i)) (drop_cons t i 0 h) ∙ ap (λ (k : ℕ). sets (set l (a + i) (get_or t i 0)) (suc (a + i)) (drop k t)) (sym (add-one i))
+      sym (ap (sets l (a + i)) (drop-cons t i 0 h) ∙ ap (λ (k : ℕ). sets (set l (a + i) (get_or t i 0)) (suc (a + i)) (drop k t)) (sym (add-one i))
       ∙ ap (λ (k : ℕ). sets (set l (a + i) (get_or t i 0)) k (drop (i + 1) t)) (sym e))
 
   pub put_end : (i : ℕ) → length t ≤ i → sets l (a + i) (drop i t) ≡ l
@@ -43,7 +43,7 @@ piece_as {l} {m} {a = a} {r = r} e = subst⁻¹ (λ (piece : List ℕ). Wrote l 
 
 infixl 30 ◌then◌
 pub ◌then◌ : {l m n xs ys : List ℕ} {a b r : ℕ} → Wrote l a xs m b → Wrote m b ys n r → Wrote l a (xs ++ ys) n r
-p then q = record { end = simp length_append (omega (arith, p.end, q.end)); out = q.out ∙ rw (sets_append, p.out, p.end) }
+p then q = record { end = simp length-append (omega (arith, p.end, q.end)); out = q.out ∙ rw (sets_append, p.out, p.end) }
 
 each_append : (f : ℕ → List ℕ) (xs ys : List ℕ) → each f (xs ++ ys) ≡ each f xs ++ each f ys
 unfolding each

@@ -1,4 +1,6 @@
 // A picture's lines, written into a lent buffer from a place on. Each function answers the place after its piece.
+#![tactic(auto)]
+
 ghost use Rattle.std.specs.Prelude.{◌≡◌, ◌+◌, ◌*◌, ◌<◌, ◌≤◌, ◌^◌, ◌++◌, length};
 ghost use Rattle.entity.specs.Limits.{limits, param_room};
 ghost use Rattle.lines.specs.Text.{decimal, named, each, values, block_line, edge_line};

@@ -5,8 +5,8 @@ use Prim.Native.Nat.{ℕ, suc, ◌+◌, ◌-◌, ◌≤◌, ◌<◌}
 use mathlib.Core.Path.{◌≡◌, sym, ap, ◌∙◌, subst}
 use mathlib.Core.List.{List, ◌∷◌, ◌++◌, map}
 use native.Mathlib.Omega.{arith}
-use lib.ListN.{length, get_or, drop, length-map, length_append, length-drop}
-use lib.Seq.{drop_cons, drop-length}
+use lib.ListN.{length, get_or, drop, length-map, length-append, length-drop}
+use lib.Seq.{drop-cons, drop-length}
 use Rattle.entity.specs.Limits.{limits, call_room}
 use Rattle.definition.specs.Form.{Graph}
 use Rattle.meaning.specs.Machine.{Task, look, finish}
@@ -50,7 +50,7 @@ module _ {gl : List ℕ} {b : ℕ} {wl₀ : List ℕ} {c₀ : Counts} where
 
   module _ {wl : List ℕ} {c : Counts} {i : ℕ} (pos : 0 < i) (S : Scheduling gl b wl₀ c₀ wl c i) where
     pub schedule_room : {g : Graph} {ts : List Task} {rs : List ℕ} → CanSchedule gl b wl₀ c₀ g ts rs → CanCall wl c (map look (drop i (g.preds b)) ++ ts) rs
-    schedule_room {g} {ts} {rs} h = let k = S g ts rs h in record { stacks = k.stacks; room = simp (length_append, length-map, length-drop) (omega (arith, h.room, k.few)) }
+    schedule_room {g} {ts} {rs} h = let k = S g ts rs h in record { stacks = k.stacks; room = simp (length-append, length-map, length-drop) (omega (arith, h.room, k.few)) }
 
     pub schedule_next : {wl₁ : List ℕ} {c₁ : Counts} {p : ℕ} → ((g : Graph) → Seen gl g → p ≡ get_or (g.preds b) (i - 1) 0) → c₁ ≡ one_call c
         → ((ts : List Task) → (rs : List ℕ) → CanCall wl c ts rs → Stacks wl₁ (one_call c) (look p ∷ ts) rs)
@@ -59,7 +59,7 @@ module _ {gl : List ℕ} {b : ℕ} {wl₀ : List ℕ} {c₀ : Counts} where
         let few = (S g ts rs h).few in
         let k : suc (i - 1) ≡ i = omega arith in
         let d : drop (i - 1) (g.preds b) ≡ p ∷ drop i (g.preds b) =
-        drop_cons (g.preds b) (i - 1) 0 (omega (arith, few)) ∙ ap (λ (m : ℕ). get_or (g.preds b) (i - 1) 0 ∷ drop m (g.preds b)) k
+        drop-cons (g.preds b) (i - 1) 0 (omega (arith, few)) ∙ ap (λ (m : ℕ). get_or (g.preds b) (i - 1) 0 ∷ drop m (g.preds b)) k
         ∙ ap (λ (m : ℕ). m ∷ drop i (g.preds b)) (sym (at g h.seen)) in
         record {
           few = omega (arith, few);

@@ -1,4 +1,6 @@
 // Looking a variable up: a visit of a block finds its definition along single predecessors, or makes a parameter and schedules what settles it.
+#![tactic(auto)]
+
 ghost use Rattle.std.specs.Prelude.{◌≡◌, List, ℕ, ◌<◌};
 ghost use Rattle.entity.specs.Limits.{limits, value_room};
 ghost use Rattle.definition.specs.Form.{Graph, Form};
@@ -13,14 +15,14 @@ use entity::{Block, OptionBlock, OptionValue, Value, Variable};
 use layout::{Call, Counts};
 
 // Where a walk stopped, and the definition that it met there.
-#[derive(Drop)]
+#[derive(Clone, Copy)]
 pub struct Stop {
     pub block: Block,
     pub value: OptionValue,
 }
 
 // The definition found, the block that it comes from, and the counts after.
-#[derive(Drop)]
+#[derive(Clone, Copy)]
 pub struct Found(pub Value, pub Block, pub Counts);
 
 // Puts the value of the variable in the block on the stack of results, or schedules what finds it.

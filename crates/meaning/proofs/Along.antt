@@ -1,7 +1,7 @@
 -- Demand 3 along a path, from the facts: what a block records of a variable at its beginning holds what the variable received, by induction on the path.
 -- Assumes nothing.
 use Prim.Native.Nat.{ℕ, ◌<◌}
-use mathlib.Core.Path.{◌≡◌, refl, sym, ap, ◌∙◌}
+use mathlib.Core.Path.{◌≡◌, refl, sym, ap, ◌∙◌, subst}
 use mathlib.Core.Logic.{⊎_elim, ◌≢◌, inl, inr}
 use mathlib.Core.Bool.{Bool, true, false, cond}
 use mathlib.Core.Option.{Option, some}
@@ -185,7 +185,7 @@ module _ (W : Type 0) (null : ℕ → W) (t : State) where
       clean_to : Clean to
       clean_to v e q sm home =
           let o = sm p declared in
-          h.clean to (rw (o.2, home) at (out v o.0 o.1).1) (λ z. S.none_enters_0 p (rw z at inside)) v e q sm home
+          h.clean to (subst (λ (z : ℕ). In z (p ∷ bs)) (ap (λ (z : ℕ). (info z).home) o.2 ∙ home) (out v o.0 o.1).1) (λ z. S.none_enters_0 p (rw z at inside)) v e q sm home
 
       good_at : (v e : ℕ) → entry v to ≡ some e → Edge graph (λ q j. 0) form params v to e
           → (zeros_set W null t to brought (R e) ≡ after.var v) × SetBy to (to ∷ p ∷ bs) [] (R e)
@@ -194,7 +194,7 @@ module _ (W : Type 0) (null : ℕ → W) (t : State) where
           let held = out v o.0 o.1 in
           let n : (info (R e)).home ≢ to = clean_to v e q sm in (
             zeros_other to brought (R e) n ∙ bring_other (params to) (args p i) after.val (R e) (λ x. n (F.params to (R e) x).0) ∙ ap after.val (sym o.2) ∙ held.0,
-            (inr (rw o.2 at held.1), λ here _. absurd (n here)),
+            (inr (subst (λ (z : ℕ). In (info z).home (p ∷ bs)) o.2 held.1), λ here _. absurd (n here)),
           )
       good_at v e q (kept _ r x k) =
           let o = k p declared in

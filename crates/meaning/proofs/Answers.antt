@@ -2,7 +2,7 @@
 use Prim.Native.Nat.{suc}
 use mathlib.Core.Path.{◌≡◌, refl, sym, ap, subst}
 use mathlib.Core.List.{List, [], ◌∷◌}
-use lib.ListN.{length_append}
+use lib.ListN.{length-append}
 use native.Mathlib.Omega.{arith}
 use Rattle.definition.specs.Session.{no, Call, State, run, session, step, empty, Reply, after, ok, reply}
 use Rattle.definition.specs.Base.{◌∷ʳ◌}
@@ -23,7 +23,7 @@ answered_one cs c = subst (λ (u : State). Answered t c u) (sym last) (by (reply
     last = run_last cs c empty
 
     counted : (step (session cs) c).graph.call ≡ suc (session cs).graph.call
-    counted = omega (arith, ap (λ (u : State). u.graph.call) last, (calls_count cs).0, (calls_count (cs ∷ʳ c)).0, length_append cs (c ∷ []))
+    counted = omega (arith, ap (λ (u : State). u.graph.call) last, (calls_count cs).0, (calls_count (cs ∷ʳ c)).0, length-append cs (c ∷ []))
 
     by : (r : Reply) → (after (session cs) c r).graph.call ≡ suc (session cs).graph.call → Answered (session cs) c (after (session cs) c r)
     by (no k) e = record { answer = record { asked = c; code = k; number = 0 }; asked = refl; done = refl; counted = e; refused = λ _. (refl, refl, refl) }

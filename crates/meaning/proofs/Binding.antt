@@ -198,6 +198,7 @@ module _ (g : Graph) where
 -- ---- the walk
 
 before_in : (c : ℕ) (l : List ℕ) (b : ℕ) → In b (before c l) → In b l
+before_in c [] b i = elim i [ ]
 before_in c (a ∷ l) b i = by (eqb a c) (before_in c l b) i
   where
     by : (z : Bool) → (In b (before c l) → In b l) → In b (cond {A = List ℕ} z [] (a ∷ before c l)) → In b (a ∷ l)

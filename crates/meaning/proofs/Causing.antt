@@ -48,7 +48,7 @@ module _ {next next' : ℕ} {info info' : ℕ → Info} {target target' : ℕ �
   kept_step y z f =
       let i = old y (omega (arith, f.below, f.after)) in
       let j = old z f.below in
-      record { after = f.after; below = le_trans f.below more; sort = rw j f.sort; home = rw (i, j) f.home; type = rw (i, j) f.type }
+      record { after = f.after; below = le_trans f.below more; sort = rw j f.sort; home = rw (i, j) f.home; type = ap (λ (k : Info). step_of k.type) j ∙ f.type ∙ ap (λ (k : Info). some k.type) (sym i) }
 
   kept_zero : (z : ℕ) → z < next → (info z).sort ≡ nought → ZeroOf next info target z → ZeroOf next' info' target' z
   kept_zero z l q k =

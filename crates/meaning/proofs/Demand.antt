@@ -6,7 +6,7 @@ use mathlib.Core.Logic.{◌≢◌, ◌⊎◌, inl, inr, ⊎_map}
 use mathlib.Core.Bool.{true}
 use mathlib.Core.Option.{Option, none, some}
 use mathlib.Core.List.{List, [], ◌∷◌, ◌++◌, append-nil}
-use lib.ListN.{length, get_or, take, drop, length_append}
+use lib.ListN.{length, get_or, take, drop, length-append}
 use native.Mathlib.Omega.{arith}
 use native.Mathlib.Nat.{not-suc-le-zero}
 use Rattle.definition.specs.Base.{or_else}
@@ -165,12 +165,12 @@ module _ (t : State) (h : Good (Unit {0}) t) (S : Counted t) where
       omega (
         arith,
         ap length r.1,
-        length_append (h.caller.args p i) r.0,
+        length-append (h.caller.args p i) r.0,
         r.2,
         counts p i lt,
         ap length
             (all_kept (Unit {0}) t h b z),
-        length_append (h.caller.params b) (h.kp b),
+        length-append (h.caller.params b) (h.kp b),
       )
 
 pub counted_right : (cs : List Call) → Counted (session cs) → Right (session cs)

@@ -4,7 +4,7 @@ use mathlib.Core.Path.{◌≡◌, refl, sym, ap, ◌∙◌}
 use mathlib.Core.Logic.{⊎_map, ◌≢◌, ◌⊎◌, inl, inr}
 use mathlib.Core.Bool.{false}
 use mathlib.Core.List.{List, [], ◌∷◌, ◌++◌, append-nil, append_assoc}
-use lib.ListN.{length, get_or, length_append, get_or-append}
+use lib.ListN.{length, get_or, length-append, get_or-append}
 use native.Mathlib.Omega.{arith}
 use native.Mathlib.Nat.{le_trans}
 use Rattle.entity.specs.Limits.{limits}
@@ -62,7 +62,7 @@ module _ (g : Graph) (E : Frame) (s : Form) (kp : ℕ → List ℕ) (op : Work) 
       ∙ sym (ap (λ (l : List ℕ). more ++ l) none_built ∙ append-nil more)
 
   counted : length more ≡ suc (s.owns b)
-  counted = omega (arith, length_append (cp b) (x ∷ []), h.owned.count b)
+  counted = omega (arith, length-append (cp b) (x ∷ []), h.owned.count b)
 
   new_info : now.info x ≡ new
   new_info = put_same s.next new s.info
@@ -139,7 +139,7 @@ module _ (g : Graph) (E : Frame) (s : Form) (kp : ℕ → List ℕ) (op : Work) 
       unfed = h.passed.unfed;
       there = h.passed.there;
       short = λ p i. let d = get_or (g.dests p) i 0 in elim (same? d b) [
-        | inl q ↦ rw (put_at b more cp d q) (omega (arith, h.passed.short p i, length_append (cp b) (x ∷ []), ap (λ (k : ℕ). length (cp k)) q))
+        | inl q ↦ rw (put_at b more cp d q) (omega (arith, h.passed.short p i, length-append (cp b) (x ∷ []), ap (λ (k : ℕ). length (cp k)) q))
         | inr n ↦ rw (put_other b more cp d n) (h.passed.short p i)
       ];
     };
@@ -186,7 +186,7 @@ module _ (g : Graph) (E : Frame) (s : Form) (kp : ℕ → List ℕ) (op : Work) 
       → (j : ℕ) → j < length (ga p i ++ x ∷ []) → P (get_or (ga p i ++ x ∷ []) j 0) j
   each_given P before last j l = elim (same? j (length (ga p i))) [
     | inl e ↦ rw (e, getD_last (ga p i) x) last
-    | inr n ↦ let lj : j < length (ga p i) = omega (arith, l, length_append (ga p i) (x ∷ [])) in
+    | inr n ↦ let lj : j < length (ga p i) = omega (arith, l, length-append (ga p i) (x ∷ [])) in
         rw (get_or-append (ga p i) (x ∷ []) 0 j lj) (before j lj)
   ]
 
@@ -226,7 +226,7 @@ module _ (g : Graph) (E : Frame) (s : Form) (kp : ℕ → List ℕ) (op : Work) 
         | inr o ↦ put₂_other p i (ga p i ++ x ∷ []) ga q j o ∙ h.passed.there q j l
       ];
       short = λ q j. elim (here? q p j i) [
-        | inl e ↦ rw (e.0, e.1, put₂_at p i (ga p i ++ x ∷ []) ga p i refl refl) (omega (arith, length_append (ga p i) (x ∷ []), ap length was, room))
+        | inl e ↦ rw (e.0, e.1, put₂_at p i (ga p i ++ x ∷ []) ga p i refl refl) (omega (arith, length-append (ga p i) (x ∷ []), ap length was, room))
         | inr o ↦ rw (put₂_other p i (ga p i ++ x ∷ []) ga q j o) (h.passed.short q j)
       ];
     };

@@ -7,7 +7,7 @@ use mathlib.Core.Bool.{Bool, true, false}
 use mathlib.Core.Option.{some}
 use mathlib.Core.List.{List, [], ◌∷◌, ◌++◌}
 use lib.Dec.{ltb}
-use lib.ListN.{length, get_or, length_append, get_or-append}
+use lib.ListN.{length, get_or, length-append, get_or-append}
 use native.Mathlib.Omega.{arith}
 use native.Mathlib.Nat.{le_trans}
 use Rattle.definition.specs.Form.{graph, with_dests, with_preds, with_declared, Graph, Form, def}
@@ -55,7 +55,7 @@ module _ (g : Graph) (E : Frame) (s : Form) (kp : ℕ → List ℕ) (op : Work) 
     UnfedAt q i l = (i < length l → g.sealed (get_or l i 0) ≡ true → In q (g.preds (get_or l i 0)) → ⊥) → s.args q i ≡ E.caller.args q i
 
     on_there : (q i : ℕ) → length (put p ds g.dests q) ≤ i → (q ≡ p) ⊎ (q ≢ p) → E.caller.args q i ≡ []
-    on_there q i l (inl e) = h.passed.there q i (rw e (le_trans (omega (arith, length_append (g.dests p) (d ∷ []))) (rw (put_at p ds g.dests q e) at l)))
+    on_there q i l (inl e) = h.passed.there q i (rw e (le_trans (omega (arith, length-append (g.dests p) (d ∷ []))) (rw (put_at p ds g.dests q e) at l)))
     on_there q i l (inr n) = h.passed.there q i (rw (put_other p ds g.dests q n) at l)
 
     on_short : (q i : ℕ) → (q ≡ p) ⊎ (q ≢ p) → length (E.caller.args q i) ≤ length (E.caller.params (get_or (put p ds g.dests q) i 0))

@@ -6,7 +6,7 @@ use mathlib.Core.Logic.{inl, inr}
 use mathlib.Core.Bool.{Bool, true, false}
 use mathlib.Core.Option.{Option, none, some}
 use mathlib.Core.List.{List, [], ◌∷◌, ◌++◌, map, reverse}
-use lib.ListN.{length, take, length_append, length-drop, length-map, drop}
+use lib.ListN.{length, take, length-append, length-drop, length-map, drop}
 use native.Mathlib.Omega.{arith}
 use Rattle.definition.specs.Base.{before, without}
 use Rattle.definition.specs.Form.{Graph, Form, def}
@@ -28,7 +28,7 @@ module _ (g : Graph) where
   low_more (p ∷ ps) ts h l = (h p (inl refl), low_more ps ts (λ q i. h q (inr i)) l)
 
   pub schedule_length : (x c : ℕ) (ts : List Task) → length (schedule g x c ts) ≡ suc (length (g.preds c) + length ts)
-  schedule_length x c ts = length_append (map look (g.preds c)) (finish x c ∷ ts) ∙ ap (λ (n : ℕ). n + suc (length ts)) (length-map (g.preds c) look) ∙ omega arith
+  schedule_length x c ts = length-append (map look (g.preds c)) (finish x c ∷ ts) ∙ ap (λ (n : ℕ). n + suc (length ts)) (length-map (g.preds c) look) ∙ omega arith
 
 module _ (g : Graph) (v : ℕ) where
   abbrev pub calls_left : Form → ℕ

@@ -1,13 +1,13 @@
 -- A parameter that is kept keeps the invariant: each destination that names its block gets one argument more, the result of its own predecessor.
 -- Assumes nothing.
 use Prim.Native.Nat.{ℕ, zero, suc, ◌<◌}
-use mathlib.Core.Path.{◌≡◌, refl, sym, ap, ◌∙◌}
+use mathlib.Core.Path.{◌≡◌, refl, sym, ap, ◌∙◌, subst}
 use mathlib.Core.Logic.{◌≢◌, ◌⊎◌, inl, inr}
 use mathlib.Core.Bool.{true, false}
 use mathlib.Core.Option.{some}
 use mathlib.Core.List.{List, [], ◌∷◌, ◌++◌, append_assoc}
 use lib.Dec.{eqb}
-use lib.ListN.{length, get_or, drop, length_append}
+use lib.ListN.{length, get_or, drop, length-append}
 use native.Mathlib.Omega.{arith}
 use native.Mathlib.Nat.{not-suc-le-zero, le_of_suc-le-suc}
 use Rattle.definition.specs.Base.{put}
@@ -56,14 +56,15 @@ module _ (g : Graph) (b : ℕ) where
       → is_dest (g.dests q) i b ≡ true
       → (r : ℕ) × (feed_all g b ps rs a q i ≡ a q i ++ r ∷ []) × Pairs q r ps rs
   all_here (p ∷ ps) [] a q i len n j e = absurd (omega (arith, len))
+  all_here [] rs a q i len n j e = elim j [ ]
   all_here (p ∷ ps) (r ∷ rs) a q i len n (inl k) e = (
     r,
-    all_else ps rs (feed p b r (g.dests p) a) q i (λ j. absurd (n.0 (rw k at j))) ∙ rw k (feed_here p b r i (g.dests p) a (rw k at e)),
+    all_else ps rs (feed p b r (g.dests p) a) q i (λ j. absurd (n.0 (subst (λ (u : ℕ). In u ps) k j))) ∙ rw k (feed_here p b r i (g.dests p) a (rw k at e)),
     inl (k, refl),
   )
   all_here (p ∷ ps) (r ∷ rs) a q i len n (inr j) e =
       let k = all_here ps rs (feed p b r (g.dests p) a) q i (omega (arith, len)) n.1 j e in
-      (k.0, k.1 ∙ ap (λ (l : List ℕ). l ++ k.0 ∷ []) (feed_else p b r q i (g.dests p) a (λ h. absurd (n.0 (rw h at j)))), inr k.2)
+      (k.0, k.1 ∙ ap (λ (l : List ℕ). l ++ k.0 ∷ []) (feed_else p b r q i (g.dests p) a (λ h. absurd (n.0 (subst (λ (u : ℕ). In u ps) h j)))), inr k.2)
 
 -- each predecessor's result stands for what it records of v
 abbrev pub Results : ℕ → Form → List ℕ → List ℕ → Type 0
@@ -73,16 +74,22 @@ Results v s (p ∷ ps) [] = ⊥
 Results v s (p ∷ ps) (r ∷ rs) = ((o : ℕ) × (def s v p ≡ some o) × (resolve s r ≡ resolve s o)) × Results v s ps rs
 
 pub results_length : (v : ℕ) (s : Form) (ps rs : List ℕ) → Results v s ps rs → length rs ≡ length ps
+results_length v s [] (r ∷ rs) h = elim h [ ]
+results_length v s (p ∷ ps) [] h = elim h [ ]
 results_length v s [] [] h = refl
 results_length v s (p ∷ ps) (r ∷ rs) h = ap suc (results_length v s ps rs h.1)
 
 result_at : (v : ℕ) (s : Form) (ps rs : List ℕ) (q r : ℕ) → Results v s ps rs → Pairs q r ps rs
     → (o : ℕ) × (def s v q ≡ some o) × (resolve s r ≡ resolve s o)
+result_at v s [] rs q r h x'' = elim x'' [ ]
+result_at v s (p ∷ ps) [] q r h _ = elim h [ ]
 result_at v s (p ∷ ps) (t ∷ rs) q r h (inl k) = rw (k.0, k.1) h.0
 result_at v s (p ∷ ps) (t ∷ rs) q r h (inr k) = result_at v s ps rs q r h.1 k
 
 pub result_of : (v : ℕ) (s : Form) (ps rs : List ℕ) (q : ℕ) → Results v s ps rs → In q ps
     → (r o : ℕ) × (def s v q ≡ some o) × (resolve s r ≡ resolve s o) × In r rs
+result_of v s [] rs q h x'' = elim x'' [ ]
+result_of v s (p ∷ ps) [] q h _ = elim h [ ]
 result_of v s (p ∷ ps) (r ∷ rs) q h (inl e) = (r, h.0.0, ap (def s v) e ∙ h.0.1, h.0.2, inl refl)
 result_of v s (p ∷ ps) (r ∷ rs) q h (inr i) = let k = result_of v s ps rs q h.1 i in (k.0, k.1, k.2, k.3, inr k.4)
 
@@ -193,10 +200,10 @@ module _ (g : Graph) (E : Frame) (s : Form) (kp : ℕ → List ℕ) (op : Work) 
               o.1 ∙ ap (λ (l : List ℕ). l ++ o.0 ∷ []) old.1 ∙ append_assoc (E.caller.args p i) old.0 (o.0 ∷ []),
               omega (
                 arith,
-                length_append old.0 (o.0 ∷ []),
+                length-append old.0 (o.0 ∷ []),
                 old.2,
                 ap length (kp_at (get_or (g.dests p) i 0) q),
-                length_append
+                length-append
                     (kp (get_or (g.dests p) i 0)) (x ∷ []),
               ),
             )

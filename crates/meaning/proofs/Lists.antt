@@ -16,6 +16,7 @@ use Rattle.meaning.proofs.Maps.{same?, eqb_same, eqb_diff, false_true, some_none
 use Rattle.meaning.proofs.Facts.{arg_of}
 
 pub in_left : {A : Type 0} (x : A) (l r : List A) → In x l → In x (l ++ r)
+in_left {A = A} x [] r x'' = elim x'' [ ]
 in_left x (y ∷ l) r (inl e) = inl e
 in_left x (y ∷ l) r (inr h) = inr (in_left x l r h)
 
@@ -43,6 +44,7 @@ in_cases x (y ∷ l) r (inl e) = inl (inl e)
 in_cases x (y ∷ l) r (inr h) = ⊎_map inr (λ i. i) (in_cases x l r h)
 
 pub has_in : (p : ℕ) (l : List ℕ) → In p l → has p l ≡ true
+has_in p [] x' = elim x' [ ]
 has_in p (q ∷ l) (inl e) = rw (e, eqb_same q) refl
 has_in p (q ∷ l) (inr i) = by (eqb p q) (has_in p l i)
   where
@@ -80,6 +82,7 @@ nodup_right [] r h = h
 nodup_right (y ∷ l) r h = nodup_right l r h.1
 
 pub without_in : (x : ℕ) (l : List ℕ) (y : ℕ) → In y (without x l) → In y l × (y ≢ x)
+without_in x [] y h = elim h [ ]
 without_in x (z ∷ l) y h = elim (same? z x) [
   | inl e ↦ let k = without_in x l y (rw (e, eqb_same x) at h) in (inr k.0, k.1)
   | inr n ↦ elim (rw (eqb_diff z x n) at h) [
@@ -128,6 +131,7 @@ snds_length [] = refl
 snds_length (q ∷ l) = ap suc (snds_length l)
 
 pub in_snds : (w x : ℕ) (l : List (ℕ × ℕ)) → In (w, x) l → In x (snds l)
+in_snds w x [] x'' = elim x'' [ ]
 in_snds w x (q ∷ l) (inl e) = inl (ap (λ (p : ℕ × ℕ). p.1) e)
 in_snds w x (q ∷ l) (inr i) = inr (in_snds w x l i)
 
@@ -176,10 +180,12 @@ or_mono none a' b b' o p h q = ap (λ (c : Option ℕ). or_else c b') p ∙ h o 
 pub take_in : (n : ℕ) (l : List ℕ) (r : ℕ) → In r (take n l) → In r l
 take_in zero l r i = absurd i
 take_in (suc n) (x ∷ l) r (inl e) = inl e
+take_in (suc n) [] r i = elim i [ ]
 take_in (suc n) (x ∷ l) r (inr i) = inr (take_in n l r i)
 
 pub drop_in : (n : ℕ) (l : List ℕ) (r : ℕ) → In r (drop n l) → In r l
 drop_in zero l r i = i
+drop_in (suc n) [] r i = elim i [ ]
 drop_in (suc n) (x ∷ l) r i = inr (drop_in n l r i)
 
 aux_in : (l a : List ℕ) (r : ℕ) → In r (reverse_aux l a) → In r l ⊎ In r a
@@ -195,15 +201,18 @@ in_cons {P} x l p h r (inl e) = subst P (sym e) p
 in_cons {P} x l p h r (inr i) = h r i
 
 pub map_in : (f : ℕ → ℕ) (l : List ℕ) (y : ℕ) → In y (map f l) → (r : ℕ) × In r l × (y ≡ f r)
+map_in f [] y x' = elim x' [ ]
 map_in f (z ∷ l) y (inl e) = (z, inl refl, e)
 map_in f (z ∷ l) y (inr i) = let k = map_in f l y i in (k.0, inr k.1, k.2)
 
 pub in_map : (f : ℕ → ℕ) (l : List ℕ) (r : ℕ) → In r l → In (f r) (map f l)
+in_map f [] r x' = elim x' [ ]
 in_map f (z ∷ l) r (inl e) = inl (ap f e)
 in_map f (z ∷ l) r (inr i) = inr (in_map f l r i)
 
 -- an entry is dropped or left
 pub left_of : (x : ℕ) (l : List ℕ) (y : ℕ) → In y l → (y ≡ x) ⊎ In y (without x l)
+left_of x [] y x'' = elim x'' [ ]
 left_of x (z ∷ l) y (inl e) = elim (same? z x) [ inl q ↦ inl (e ∙ q) | inr n ↦ inr (rw (eqb_diff z x n) (inl e)) ]
 left_of x (z ∷ l) y (inr i) = ⊎_map (λ e. e) (more (eqb z x)) (left_of x l y i)
   where

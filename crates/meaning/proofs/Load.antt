@@ -6,7 +6,7 @@ use mathlib.Core.Bool.{Bool, true, false, cond}
 use mathlib.Core.Option.{Option, none, some}
 use mathlib.Core.List.{List, [], ◌∷◌}
 use lib.Dec.{eqb}
-use lib.ListN.{length, length_append}
+use lib.ListN.{length, length-append}
 use native.Mathlib.Omega.{arith}
 use Rattle.entity.specs.Limits.{limits, value_room, zero_room}
 use Rattle.entity.specs.Types.{step_of}
@@ -74,7 +74,7 @@ settle_adds g b x rs s [] =
     let o = step_of (s.info x).type in
     rw (emit_is o b s₁) (record {
       next = omega (arith, (emit_stepped o b s₁).few);
-      zeros = omega (arith, length_append s.zeros ((g.call, b) ∷ []));
+      zeros = omega (arith, length-append s.zeros ((g.call, b) ∷ []));
       makes = refl;
       pending = refl;
     })

@@ -46,6 +46,7 @@ cur_has v (gives w x ∷ l) f h = cur_has v l (put w (some x) f) (elim (same? v 
 ])
 
 cur_gave : (v x : ℕ) (l : List Act) (f : ℕ → Option ℕ) → In (gives v x) l → Has (cur f l v)
+cur_gave v x [] f x'' = elim x'' [ ]
 cur_gave v x (makes y ∷ l) f (inl q) = absurd (let z : ◌≡◌ {A = ℕ} 0 1 = cc in omega arith)
 cur_gave v x (makes y ∷ l) f (inr i) = cur_gave v x l f i
 cur_gave v x (uses w y ∷ l) f (inl q) = absurd (let z : ◌≡◌ {A = ℕ} 0 1 = cc in omega arith)
@@ -218,7 +219,7 @@ module _ (t : State) (h : Sure t) (c : Call) where
               let j = gave 0 v quiet b w x i in
               elim (same? w v) [
                 | inl q ↦ absurd (let o = cur_gave w x (acts b t.done) (λ u. none) j in
-                    nothing_stands e b o.0 (inl (ap (λ (u : ℕ). s.own u b) (sym q) ∙ h.whole.own_val b w ∙ o.1)))
+                    nothing_stands e b o.0 (inl (ap (λ (u : ℕ). s.own u b) (sym q) ∙ h.whole.own b w ∙ o.1)))
                 | inr n ↦ W.heard w b x (sym (put_other v true g.marks w n) ∙ k) j
               ];
         };

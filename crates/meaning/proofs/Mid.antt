@@ -6,7 +6,7 @@ use mathlib.Core.Logic.{◌≢◌, ◌⊎◌, inl, inr}
 use mathlib.Core.Bool.{Bool, true, false}
 use mathlib.Core.Option.{Option, none, some}
 use mathlib.Core.List.{List, [], ◌∷◌, ◌++◌, map, reverse}
-use lib.ListN.{length-take, length-drop, length, take, drop, length_append, length-reverse}
+use lib.ListN.{length-take, length-drop, length, take, drop, length-append, length-reverse}
 use native.Mathlib.Omega.{arith}
 use native.Mathlib.Nat.{le_trans}
 use Rattle.definition.specs.Base.{put, before, without}
@@ -158,7 +158,7 @@ module _ (g : Graph) (G : Sound g) (B : Bounds g) (v : ℕ) (lv : v < length g.t
           let more = waiting_put s.pending c (s.pending c ++ (v, x) ∷ []) (le_trans lc B.few) in (
             record {
               rest = set_rest ws op quiet m (finishes ts k)
-                  (omega (arith, more, length_append (s.pending c) ((v, x) ∷ [])));
+                  (omega (arith, more, length-append (s.pending c) ((v, x) ∷ [])));
               busy = m.busy;
               sane = h.sane;
               fits = h.fits;

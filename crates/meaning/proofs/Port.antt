@@ -4,7 +4,7 @@ use Prim.Native.Nat.{ℕ, zero, suc, ◌+◌, ◌<◌, ◌≤◌}
 use mathlib.Core.Path.{◌≡◌, refl, sym, ap, ◌∙◌, subst}
 use mathlib.Core.Bool.{true, false}
 use mathlib.Core.List.{List, [], ◌∷◌, ◌++◌, append-nil}
-use lib.ListN.{length, get_or, length_append}
+use lib.ListN.{length, get_or, length-append}
 use native.Mathlib.Omega.{arith}
 use native.Mathlib.Nat.{le_trans}
 use Rattle.entity.specs.Limits.{value_room, limits, param_room, zero_room}
@@ -48,7 +48,7 @@ give_room t h p i d l =
     let w = h.whole in
     let n = w.inv.owned.count d in (
       omega (arith, l, n, w.inv.owned.few d),
-      omega (arith, l, n, ap length (w.inv.listed.split d), length_append (w.caller.params d) (w.kp d ++ snds (pending t.graph t.form idle d))),
+      omega (arith, l, n, ap length (w.inv.listed.split d), length-append (w.caller.params d) (w.kp d ++ snds (pending t.graph t.form idle d))),
     )
 
 module _ (g : Graph) (v : ℕ) where

@@ -166,7 +166,7 @@ module _ (g : Graph) (G : Sound g) (v : ℕ) (lv : v < length g.types) (E : Fram
       let lc = G.inside c p (subst (λ (k : List ℕ). In p k) (sym one) (inl refl)) in
       let fr = below.free c tr.1 in
       let gr = mark_grow g E s₁ kp op below.inv v x c p fr both.0 one below.here lv lc in
-      let bare : s₁.own v c ≡ none = below.grow.own_val v c ∙ own v c ∙ (or_none (s₀.own v c) (s₀.entry v c) tr.1).0 in
+      let bare : s₁.own v c ≡ none = below.grow.own v c ∙ own v c ∙ (or_none (s₀.own v c) (s₀.entry v c) tr.1).0 in
       record {
         inv = mark_inv g E s₁ kp op below.inv v x c p fr both.0 one below.here lv lc;
         grow = grow_trans s s₁ (mark_one v x c s₁) below.grow gr;

@@ -7,7 +7,7 @@ use mathlib.Core.Bool.{true, ◌&&◌}
 use mathlib.Core.Option.{Option, none, some}
 use mathlib.Core.List.{List, [], ◌∷◌, ◌++◌, append-nil}
 use lib.Dec.{ltb}
-use lib.ListN.{length, get_or, take, drop, length_append, get_or-append}
+use lib.ListN.{length, get_or, take, drop, length-append, get_or-append}
 use native.Mathlib.Omega.{arith}
 use native.Mathlib.Nat.{le_trans}
 use Rattle.entity.specs.Limits.{call_room, limits, result_room}
@@ -56,7 +56,7 @@ module _ (g : Graph) (op : Work) (k : ℕ) (s : Form) (r : Rest g op k s) where
   built_room b = pigeon (λ w. s.entry w b) (length g.types) (built b) (inv.listed.nodup b) (of_variable b)
 
   all_of : (b : ℕ) → length (s.params b) ≡ length (caller.params b) + length (kp b ++ snds (pending g s op b))
-  all_of b = ap length (inv.listed.split b) ∙ length_append (caller.params b) (built b)
+  all_of b = ap length (inv.listed.split b) ∙ length-append (caller.params b) (built b)
 
   pub params_room : (b : ℕ) → length (s.params b) ≤ length g.types + limits.own_params
   params_room b = omega (arith, all_of b, built_room b, inv.owned.few b)
@@ -78,7 +78,7 @@ module _ (g : Graph) (op : Work) (k : ℕ) (s : Form) (r : Rest g op k s) where
   new_param_room v c lv blank = omega (arith, all_of c, new_built_room v c lv blank, inv.owned.few c)
 
   parts : (b : ℕ) → length (kp b ++ snds (pending g s op b)) ≡ length (kp b) + length (pending g s op b)
-  parts b = omega (arith, length_append (kp b) (snds (pending g s op b)), snds_length (pending g s op b))
+  parts b = omega (arith, length-append (kp b) (snds (pending g s op b)), snds_length (pending g s op b))
 
   -- what waits is no more than the builder's parameters
   pub waits_room : (b : ℕ) → length (s.pending b) ≤ length (kp b ++ snds (pending g s op b))
@@ -100,7 +100,7 @@ module _ (g : Graph) (op : Work) (k : ℕ) (s : Form) (r : Rest g op k s) where
         | inl e ↦ let y = and_both (ltb i (length (g.dests p)) && g.sealed d) (has p (g.preds d)) e in
             let z = and_both (ltb i (length (g.dests p))) (g.sealed d) y.0 in
             let f = inv.passed.fed p i (ltb_yes i (length (g.dests p)) z.0) z.1 (in_has p (g.preds d) y.1) in
-            omega (arith, ap length f.1, length_append (caller.args p i) f.0, f.2, kept_room d, given_room p i)
+            omega (arith, ap length f.1, length-append (caller.args p i) f.0, f.2, kept_room d, given_room p i)
         | inr e ↦ rw (inv.passed.unfed p i (λ l z j. false_true e (rw (yes_ltb i (length (g.dests p)) l, z, has_in p (g.preds d) j) refl)))
             (omega (arith, given_room p i))
       ]
@@ -115,7 +115,7 @@ module _ (g : Graph) (op : Work) (k : ℕ) (s : Form) (r : Rest g op k s) where
       omega (
         arith,
         ap length f.1,
-        length_append (caller.args p i) f.0,
+        length-append (caller.args p i) f.0,
         f.2,
         ap
             (λ (c : ℕ). length (kp c)) q,
@@ -166,11 +166,11 @@ fed_always cs p i lt z ip =
     omega (
       arith,
       ap length f.1,
-      length_append (h.caller.args p i) f.0,
+      length-append (h.caller.args p i) f.0,
       f.2,
       ap length (h.gifts p i),
       ap length (all_kept ⊥ (session cs) h b z),
-      length_append (h.caller.params b) (h.kp b),
+      length-append (h.caller.params b) (h.kp b),
       h.inv.owned.count b,
     )
 

@@ -24,6 +24,7 @@ use Rattle.meaning.proofs.Inv.{alias_move, x_pending, x_par, grow_refl, Work, Fr
 use Rattle.meaning.proofs.Keeping.{Results, result_of, keep_inv}
 
 all_same : (y : ℕ) (ys : List ℕ) → every (eqb y) ys ≡ true → (z : ℕ) → In z (y ∷ ys) → z ≡ y
+all_same y [] e z (inr x5) = elim x5 [ ]
 all_same y ys e z (inl q) = q
 all_same y (u ∷ ys) e z (inr (inl q)) = q ∙ sym (eqb_eq y u (and_both (eqb y u) (every (eqb y) ys) e).0)
 all_same y (u ∷ ys) e z (inr (inr i)) = all_same y ys (and_both (eqb y u) (every (eqb y) ys) e).1 z (inr i)

@@ -4,7 +4,7 @@ use Prim.Native.Nat.{ℕ, suc, ◌+◌, ◌<◌}
 use mathlib.Core.Path.{◌≡◌, ◌∙◌}
 use mathlib.Core.Bool.{true, false}
 use mathlib.Core.List.{List, [], ◌∷◌, ◌++◌}
-use lib.ListN.{length, length_append}
+use lib.ListN.{length, length-append}
 use native.Mathlib.Omega.{arith}
 use Rattle.definition.specs.Base.{put}
 use Rattle.definition.specs.Form.{Graph, Form, def}
@@ -77,8 +77,8 @@ module _ (g : Graph) (s : Form) (h : Steady g s) where
 
 -- a call more is done with each call
 after_count : (t : State) (c : Call) (r : Reply) → length (after t c r).done ≡ suc (length t.done)
-after_count t c (no k) = omega (arith, length_append t.done (record { asked = c; code = k; number = 0 } ∷ []))
-after_count t c (ok n g s) = omega (arith, length_append t.done (record { asked = c; code = 0; number = n } ∷ []))
+after_count t c (no k) = omega (arith, length-append t.done (record { asked = c; code = k; number = 0 } ∷ []))
+after_count t c (ok n g s) = omega (arith, length-append t.done (record { asked = c; code = 0; number = n } ∷ []))
 
 run_count : (cs : List Call) (t : State) → length (run t cs).done ≡ length t.done + length cs
 run_count [] t = omega arith

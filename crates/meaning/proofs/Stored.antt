@@ -113,6 +113,7 @@ module _ (g : Graph) (G : Sound g) (v : ℕ) (s : Form) where
   -- the blocks passed are there, without a definition of v, and sealed
   trail_low : (l : List ℕ) (b e : ℕ) → b < g.blocks → Trail g v s b l e → (c : ℕ) → In c l → (c < g.blocks) × (def s v c ≡ none)
   trail_low (d ∷ l) b e lb t c (inl q) = (subst (λ (j : ℕ). j < g.blocks) (t.0 ∙ sym q) lb, ap (def s v) q ∙ t.1)
+  trail_low [] b e lb t c x3 = elim x3 [ ]
   trail_low (d ∷ l) b e lb t c (inr i) = trail_low l t.2.0 e (G.range d t.2.0 (subst (λ (k : List ℕ). In t.2.0 k) (sym (only_is (g.sealed d) (g.preds d) t.2.0 t.2.1).1) (inl refl))) t.2.2 c i
 
   pub walk_room : (b : ℕ) → b < g.blocks → def s v b ≡ none → (n : ℕ)

@@ -138,7 +138,7 @@ module _ (cs : List Call) where
       let before : ℕ → Option ℕ = cur (λ w. none) us in
       let k = stands (put v (some x) before) bs v x (put_same v (some x) before) in
       let recorded = ap (λ (l : List Act). cur (λ w. none) l v) q ∙ ap (λ (f : ℕ → Option ℕ). f v) (cur_append (λ w. none) us (gives v x ∷ bs)) ∙ k.1 in
-      ((stored cs).own v b k.0 ((sure cs).whole.own_val b v ∙ recorded)).1
+      ((stored cs).own v b k.0 ((sure cs).whole.own b v ∙ recorded)).1
 
   pub all_sealed_decided : Decides (all_sealed? t) (AllSealed t)
   all_sealed_decided = each_below (λ b. itself (t.graph.sealed b)) t.graph.blocks

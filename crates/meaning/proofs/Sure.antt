@@ -6,7 +6,7 @@ use mathlib.Core.Bool.{Bool, true, false, cond, not, ◌&&◌, ◌||◌}
 use mathlib.Core.Option.{Option, none, some}
 use mathlib.Core.List.{List, [], ◌∷◌, ◌++◌}
 use lib.Dec.{eqb, ltb, leb}
-use lib.ListN.{length, get_or, length_append, get_or-append}
+use lib.ListN.{length, get_or, length-append, get_or-append}
 use native.Mathlib.Omega.{arith}
 use native.Mathlib.Nat.{le_trans, not-suc-le-zero}
 use Rattle.entity.specs.Types.{type_count}
@@ -115,7 +115,7 @@ module _ (g : Graph) (s : Form) (ds : List Done) (w : Whole ⊥ g s ds) (h : Saf
     keep_var x y =
         check 4 (leb limits.variables x) _ λ e₄. check 5 (ltb (length g.types) x) _ λ e₅. check 6 (leb type_count y) _ λ e₆.
         check 7 (ltb x (length g.types) && not (eqb y (type_of g x))) _ λ _. choose (ltb x (length g.types)) _ _ (λ _. nothing x) λ e.
-        let more = length_append g.types (y ∷ []) in
+        let more = length-append g.types (y ∷ []) in
         keep x _ s refl
         (record {
           few = h.bounds.few;
@@ -205,7 +205,7 @@ module _ (g : Graph) (s : Form) (ds : List Done) (w : Whole ⊥ g s ds) (h : Saf
           vars = h.bounds.vars;
           typed = h.bounds.typed;
           dests = λ q. elim (same? q p) [
-            | inl e ↦ rw (put_at p ds g.dests q e, length_append (g.dests p) (b ∷ [])) (omega (arith, leb_no limits.dests (length (g.dests p)) e₁₀))
+            | inl e ↦ rw (put_at p ds g.dests q e, length-append (g.dests p) (b ∷ [])) (omega (arith, leb_no limits.dests (length (g.dests p)) e₁₀))
             | inr n ↦ rw (put_other p ds g.dests q n) (h.bounds.dests q)
           ];
           aims = λ q d i. elim (put_in d p ds g.dests q i) [
@@ -321,7 +321,7 @@ module _ (t : State) (c : Call) (h : Sure t) where
   after_sure (no k) w n f = record {
     whole = w;
     safe = tick_safe t.graph t.form h.safe;
-    count = omega (arith, h.count, length_append t.done (record { asked = c; code = k; number = 0 } ∷ []));
+    count = omega (arith, h.count, length-append t.done (record { asked = c; code = k; number = 0 } ∷ []));
     logged = λ z i. omega (arith, h.logged z i);
     answers = λ i x q. elim (answered_last t.done (record { asked = c; code = k; number = 0 }) i x q) [
       | inl o ↦ h.answers i x o
@@ -331,7 +331,7 @@ module _ (t : State) (c : Call) (h : Sure t) where
   after_sure (ok n g s) w u f = record {
     whole = w;
     safe = tick_safe g s f.safe;
-    count = omega (arith, h.count, f.calls, length_append t.done (record { asked = c; code = 0; number = n } ∷ []));
+    count = omega (arith, h.count, f.calls, length-append t.done (record { asked = c; code = 0; number = n } ∷ []));
     logged = λ z i. omega (arith, (f.safe.ranged.logs.noted z i).0);
     answers = λ i x q. elim (answered_last t.done (record { asked = c; code = 0; number = n }) i x q) [
       | inl o ↦ le_trans (h.answers i x o) f.later.more

@@ -6,7 +6,7 @@ use mathlib.Core.Bool.{Bool, true, false, cond, not, ◌&&◌, ◌||◌}
 use mathlib.Core.Option.{Option, none, some}
 use mathlib.Core.List.{List, [], ◌∷◌, ◌++◌, append-nil, append_assoc, map}
 use lib.Dec.{eqb, ltb, leb}
-use lib.ListN.{length, get_or, length_append, get_or-append}
+use lib.ListN.{length, get_or, length-append, get_or-append}
 use native.Mathlib.Omega.{arith}
 use native.Mathlib.Nat.{le_trans}
 use Rattle.entity.specs.Types.{type_count}
@@ -76,6 +76,7 @@ module _ (E : Type 0) (g : Graph) (s : Form) (ds : List Done) (h : Whole E g s d
   silent mute = giving h.caller (λ p i. h.gifts p i ∙ sym (no_gift p i ds d (mute p i)))
 
 pub some_no : (f : ℕ → Bool) (l : List ℕ) → any f l ≡ false → (x : ℕ) → In x l → f x ≡ false
+some_no f [] e x x4 = elim x4 [ ]
 some_no f (y ∷ l) e x (inl k) = ap f k ∙ (or_no (f y) (any f l) e).0
 some_no f (y ∷ l) e x (inr i) = some_no f l (or_no (f y) (any f l) e).1 x i
 
@@ -95,6 +96,7 @@ butlast_in (x ∷ y ∷ l) q (inl e) = inl e
 butlast_in (x ∷ y ∷ l) q (inr i) = inr (butlast_in (y ∷ l) q i)
 
 butlast_apart : (d x : ℕ) (l : List ℕ) → Nodup (x ∷ l) → (q : ℕ) → In q (but_last (x ∷ l)) → q ≢ last d (x ∷ l)
+butlast_apart d x [] n q x5 e = elim x5 [ ]
 butlast_apart d x (y ∷ l) n q (inl k) e = n.0 (subst (λ (j : ℕ). In j (y ∷ l)) (sym e ∙ k) (last_in x y l))
 butlast_apart d x (y ∷ l) n q (inr i) e = butlast_apart x y l n.1 q i e
 
@@ -134,7 +136,7 @@ out_in p [] q i = i
 out_in p (x ∷ l) q i =
     let z = last p (x ∷ l) in
     let k = map_in (swap_one p z) (x ∷ l) q (butlast_in (map (swap_one p z) (x ∷ l)) q i) in
-    elim (swap_is p z k.0) [ inl a ↦ rw (k.2 ∙ a.1) (last_in p x l) | inr a ↦ rw (k.2 ∙ a.1) k.1 ]
+    elim (swap_is p z k.0) [ inl a ↦ subst (λ (u : ℕ). In u (x ∷ l)) (sym (k.2 ∙ a.1)) (last_in p x l) | inr a ↦ subst (λ (u : ℕ). In u (x ∷ l)) (sym (k.2 ∙ a.1)) k.1 ]
 
 module _ (E : Type 0) (g : Graph) (s : Form) (ds : List Done) (h : Whole E g s ds) (c : Call) where
   abbrev said : ℕ → Done
@@ -192,7 +194,7 @@ module _ (E : Type 0) (g : Graph) (s : Form) (ds : List Done) (h : Whole E g s d
       check 4 (leb limits.variables x) _ (omega arith) λ _. check 5 (ltb (length g.types) x) _ (omega arith) λ _. check 6 (leb type_count y) _ (omega arith) λ _.
       check 7 (ltb x (length g.types) && not (eqb y (type_of g x))) _ (omega arith) λ _. choose (ltb x (length g.types)) _ _ (λ _. nothing q x) λ _.
       wider_fine q x g.blocks (g.types ++ y ∷ []) g.branch g.marks s h.inv (grow_refl s) (omega arith)
-      (λ w l. (omega (arith, l, length_append g.types (y ∷ [])), get_or-append g.types (y ∷ []) 0 w l))
+      (λ w l. (omega (arith, l, length-append g.types (y ∷ [])), get_or-append g.types (y ∷ []) 0 w l))
 
   fine_branch : Quiet → (b : ℕ) → Fine (new_branch g s b)
   fine_branch q b = check 6 (no_block g s b) _ (omega arith) λ _. check 9 (g.branch b) _ (omega arith) λ _.
@@ -334,10 +336,10 @@ module _ (E : Type 0) (g : Graph) (s : Form) (ds : List Done) (h : Whole E g s d
       let q = read (depth g) g v b s in
       let r = reads g h.sound v lv F (depth g) b s h.kp idle (leb_no g.blocks b o.1) h.inv (λ c z. inl refl) (shallow v s g) in
       spoken q.0 b (uses v q.0) (is q.0) (mute q.0) q.1 r.kp r.inv (keeps r.grow) (λ c w u i. r.grow.entry w c u i)
-      (λ w. r.grow.own_val w b ∙ h.own b w) (λ c w d. r.grow.own_val w c) (
+      (λ w. r.grow.own w b ∙ h.own b w) (λ c w d. r.grow.own w c) (
         (
           r.o,
-          cur_or (λ w. q.1.entry w b) (acts b ds) (λ w. none) v ∙ ap (λ (z : Option ℕ). or_else z (q.1.entry v b)) (sym (r.grow.own_val v b ∙ h.own b v)) ∙ r.recorded,
+          cur_or (λ w. q.1.entry w b) (acts b ds) (λ w. none) v ∙ ap (λ (z : Option ℕ). or_else z (q.1.entry v b)) (sym (r.grow.own v b ∙ h.own b v)) ∙ r.recorded,
           r.alike,
         ),
         tt,

@@ -1,4 +1,6 @@
 // The texts of a dump, in letters and in words, with numbers put in, and output by way of a lent buffer.
+#![tactic(auto)]
+
 pub mod out;
 pub mod say;
 pub mod texts;

@@ -3,7 +3,7 @@ use crate::out::{byte, hex, number};
 use entity::Type;
 
 // What a text tells. Where it tells a type, c is its number; where it tells bits, c has the low 64 and d the high 64.
-#[derive(Drop)]
+#[derive(Clone, Copy)]
 pub struct Numbers {
     pub a: usize,
     pub b: usize,

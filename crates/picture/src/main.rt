@@ -1,4 +1,6 @@
 // The second program: runs lists of calls and prints a picture of what each session leaves.
+#![tactic(auto)]
+
 fn main() {
     program::start(
         b"picture",

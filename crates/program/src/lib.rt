@@ -1,4 +1,6 @@
 // What the programs share: the lists of calls in the named files, or those on standard input, are run in turn, and what each session leaves is shown.
+#![tactic(auto)]
+
 ghost use Rattle.std.specs.Prelude.{◌≡◌, ◌*◌, length};
 ghost use Rattle.entity.specs.Limits.{limits};
 
@@ -18,7 +20,7 @@ pub const WORDS: u32 = 1;
 pub const PICTURE: u32 = 2;
 
 // How far an input is read, and how many bytes of output wait.
-#[derive(Drop)]
+#[derive(Clone, Copy)]
 struct State {
     reading: Reading,
     waiting: usize,

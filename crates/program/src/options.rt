@@ -2,7 +2,7 @@
 use crate::{PICTURE, WORDS};
 use input::tell;
 
-#[derive(Drop)]
+#[derive(Clone, Copy)]
 pub struct Options {
     pub help: bool,
     pub shown: u32,

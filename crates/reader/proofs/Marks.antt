@@ -10,7 +10,7 @@ use native.Mathlib.Omega.{arith}
 use borrow.Author.Tests.{lt-ltb, le-ltb}
 use lib.Dec.{eqb, ltb}
 use lib.ListN.{length, get_or, take, drop, length-drop, drop_of_length-le}
-use lib.Seq.{drop_cons, length-take-le, get_or_take, get_or-drop}
+use lib.Seq.{drop-cons, length-take-le, get_or-take, get_or-drop}
 use Rattle.entity.specs.Types.{type_count}
 use Rattle.entity.specs.Described.{mark_of}
 use Rattle.entity.proofs.Packing.{mark_packed}
@@ -39,10 +39,10 @@ module _ (t : List ℕ) (x : ℕ) where
 
   module _ (lt : x < length t) where
     pub marked_here : eqb (mark_of (get_or t x 0)) 1 ≡ true → next_of x (drop x t) ≡ x
-    marked_here e = rw (drop_cons t x 0 lt, e)
+    marked_here e = rw (drop-cons t x 0 lt, e)
 
     pub not_here : eqb (mark_of (get_or t x 0)) 1 ≡ false → next_of (x + 1) (drop (x + 1) t) ≡ next_of x (drop x t)
-    not_here e = rw (drop_cons t x 0 lt, e, add-one x)
+    not_here e = rw (drop-cons t x 0 lt, e, add-one x)
 
   pub none_left : length t ≤ x → next_of x (drop x t) ≡ x
   none_left le = rw (drop_of_length-le t le)
@@ -64,7 +64,7 @@ recorded_shown cs left n e x lt =
     let R = rooms_suffice cs in
     let long : length t ≡ s.next = length-take-le s.next (drop (base form_sizes 3) left.form) (omega (arith, length-drop (base form_sizes 3) left.form, h.long, R.values)) in
     let cell : get_or t x 0 ≡ described q (s.recorded x) =
-    get_or_take s.next (drop (base form_sizes 3) left.form) x 0 lt ∙ get_or-drop (base form_sizes 3) left.form x 0
+    get_or-take s.next (drop (base form_sizes 3) left.form) x 0 lt ∙ get_or-drop (base form_sizes 3) left.form x 0
     ∙ column_at form_sizes left.form (form_tables s) 3 h s.next (λ y. described (s.info y) (s.recorded y)) refl x lt (omega (arith, R.values)) in
     let ty = ((stored cs).info x lt).1 in
     let mark : mark_of (get_or t x 0) ≡ bit (s.recorded x) =

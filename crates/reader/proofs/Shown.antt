@@ -10,7 +10,7 @@ use borrow.Author.Tests.{ltb-true}
 use borrow.Table.Elements.{take-le}
 use lib.Arith.{digits_lt}
 use lib.ListN.{length, get_or, take, drop, length-drop}
-use lib.Seq.{length-take-le, get_or_take, get_or-drop, ext_get_or}
+use lib.Seq.{length-take-le, get_or-take, get_or-drop, ext_get_or}
 use denote.Ref.{Bor}
 use Rattle.entity.specs.Limits.{limits}
 use Rattle.definition.specs.Base.{◌<?◌}
@@ -49,7 +49,7 @@ module _ (t : List ℕ) (a : Asked) (xs : List ℕ) (n : named a ≡ true) (r : 
 
   got_at : (i : ℕ) → i < length got → get_or got i 0 ≡ get_or xs i 0
   got_at i lt =
-      get_or_take (length xs) (drop (head a + 1) t) i 0 (omega (arith, got_long)) ∙ get_or-drop (head a + 1) t i 0
+      get_or-take (length xs) (drop (head a + 1) t) i 0 (omega (arith, got_long)) ∙ get_or-drop (head a + 1) t i 0
       ∙ row_entry t (head a) param_row xs r i (omega (arith, got_long, r.few))
 
   row_read : take (row_of t a).1 (drop (row_of t a).0 t) ≡ xs
@@ -60,7 +60,7 @@ row_in_part : (l xs : List ℕ) (b n h w : ℕ) → b + n ≤ length l → h + w
 row_in_part l xs b n h w fits inside r = record {
   fits = omega (arith, length-take-le n (drop b l) (omega (arith, length-drop b l)));
   at = λ i lt. let e : b + (h + i) ≡ b + h + i = omega arith in
-      get_or_take n (drop b l) (h + i) 0 (omega arith) ∙ get_or-drop b l (h + i) 0 ∙ ap (λ (k : ℕ). get_or l k 0) e ∙ r.at i lt;
+      get_or-take n (drop b l) (h + i) 0 (omega arith) ∙ get_or-drop b l (h + i) 0 ∙ ap (λ (k : ℕ). get_or l k 0) e ∙ r.at i lt;
   few = r.few;
 }
 
@@ -68,7 +68,7 @@ row_in_part l xs b n h w fits inside r = record {
 holds_whole : (sizes l : List ℕ) (M : List Table) → Holds sizes (take (sum sizes) l) M → Holds sizes l M
 holds_whole sizes l M h = record {
   long = omega (arith, h.long, take-le (sum sizes) l);
-  at = λ t j lt. sym (get_or_take (sum sizes) l (base sizes t + j) 0 (within sizes t j lt)) ∙ h.at t j lt;
+  at = λ t j lt. sym (get_or-take (sum sizes) l (base sizes t + j) 0 (within sizes t j lt)) ∙ h.at t j lt;
 }
 
 module _ (g : Graph) (s : Form) (R : Rooms g s) (l : List ℕ) (h : Holds form_sizes l (form_tables s)) where

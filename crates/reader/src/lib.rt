@@ -1,5 +1,7 @@
 // Rows of finished tables, read where they lie: a block's parameters, or the arguments of a destination. Nothing is copied, and no such call has a loop.
 // And which values are recorded for stack maps.
+#![tactic(auto)]
+
 ghost use Rattle.std.specs.Prelude.{◌≡◌, ◌<◌, ◌^◌, drop};
 ghost use Rattle.reader.specs.Marks.{IsRecorded, next_of};
 ghost use Rattle.reader.specs.Rows.{Located, IsRow, code_of, named, number, table_of};
@@ -7,7 +9,7 @@ ghost use Rattle.reader.specs.Rows.{Located, IsRow, code_of, named, number, tabl
 use entity::{Block, Branch, Described, Value};
 
 // What is asked for: the parameters of a block, or the arguments of a branch's destination by its place.
-#[derive(Drop)]
+#[derive(Clone, Copy)]
 pub enum Asked {
     Params(Block),
     Args(Branch, u32),
@@ -15,7 +17,7 @@ pub enum Asked {
 
 // Where the entries of a row lie in its table. With code 6 there is no such row, and no entry. Laid out for C, which gets it as it is.
 #[repr(C)]
-#[derive(Drop)]
+#[derive(Clone, Copy)]
 pub struct Span {
     pub code: u32,
     pub start: usize,
@@ -101,7 +103,7 @@ pub fn row_code(params: &[u32], args: &[u32], asked: Asked) -> u32
 }
 
 // Whether a value is recorded for stack maps, 1 or 0. With code 6 there is no such value.
-#[derive(Drop)]
+#[derive(Clone, Copy)]
 pub struct Mark {
     pub code: u32,
     pub number: u32,

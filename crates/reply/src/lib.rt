@@ -1,4 +1,6 @@
 // What a call answers: its code, its number and the counts after it; and the checks that calls of several kinds have.
+#![tactic(auto)]
+
 ghost use Rattle.std.specs.Prelude.{◌≡◌, false, ◌<◌};
 ghost use Rattle.entity.specs.Limits.{limits};
 ghost use Rattle.definition.specs.Form.{Graph, Form};
@@ -10,7 +12,7 @@ use entity::Block;
 use layout::Counts;
 
 // The answer's code and number, and the counts after the call.
-#[derive(Drop)]
+#[derive(Clone, Copy)]
 pub struct Reply {
     pub code: u32,
     pub number: u32,

@@ -1,4 +1,6 @@
 // Rows of cells that hold a list: the count, the entries, zeros. `at` is the cell of the count.
+#![tactic(auto)]
+
 ghost use Rattle.std.specs.Prelude.{◌≡◌, ◌<◌, ltb, get_or};
 ghost use Rattle.layout.specs.Rows.{Readable, Pushable, pushed, swapped, seek, sift, wipe};
 

@@ -1,4 +1,6 @@
 // The program: runs lists of calls and prints what each session leaves, line by line.
+#![tactic(auto)]
+
 fn main() {
     program::start(
         b"sangvireb",

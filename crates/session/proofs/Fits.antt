@@ -6,7 +6,7 @@ use mathlib.Core.Path.{◌≡◌, refl, sym, ap, ◌∙◌, subst}
 use mathlib.Core.Bool.{Bool, true, false, cond}
 use mathlib.Core.List.{List, ◌++◌}
 use native.Mathlib.Omega.{arith}
-use lib.ListN.{length, take, drop, length_append, length-drop}
+use lib.ListN.{length, take, drop, length-append, length-drop}
 use lib.Seq.{length-take-le}
 use Rattle.entity.specs.Limits.{limits, graph_need, form_need, work_need}
 use Rattle.definition.specs.Base.{◌=?◌}
@@ -53,7 +53,7 @@ module _ (ks xs ys zs : List ℕ) (t : Lent) where
 
 -- the first n cells are lent on, and come back
 pub back : (n : ℕ) (l u : List ℕ) → n ≤ length l → length u ≡ length (take n l) → length (u ++ drop n l) ≡ length l
-back n l u h e = length_append u (drop n l) ∙ omega (arith, e, length-take-le n l h, length-drop n l)
+back n l u h e = length-append u (drop n l) ∙ omega (arith, e, length-take-le n l h, length-drop n l)
 
 module _ {ks xs ys zs : List ℕ} {t : Lent} (h : Fits ks xs ys zs t) where
   pub lined : Lined (length ks) xs ys zs (take (length ks) t.codes) (take (length ks) t.numbers)

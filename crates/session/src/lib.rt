@@ -1,4 +1,6 @@
 // The session: a whole list of calls over lent cells. The lengths decide whether it is run at all; if it is, the calls are run in turn.
+#![tactic(auto)]
+
 ghost use Rattle.std.specs.Prelude.{◌≡◌};
 ghost use Rattle.definition.specs.Whole.{needs, short, unfit};
 ghost use Rattle.layout.specs.Outcome.{lent};

@@ -9,7 +9,7 @@ use native.Mathlib.Numerals.{add-one}
 use borrow.Author.Tests.{eq-eqb, ne_eqb}
 use lib.Dec.{eqb}
 use lib.ListN.{length, get_or, drop, drop_of_length-le, length-reverse, take}
-use lib.Seq.{drop_cons, length-take-le}
+use lib.Seq.{drop-cons, length-take-le}
 use Rattle.entity.specs.declared.Value.{Value}
 use Rattle.definition.specs.Base.{without, every}
 use Rattle.definition.specs.Form.{Form}
@@ -65,7 +65,7 @@ module _ (fl wl : List ℕ) (c : Counts) (n x : ℕ) where
       result_resolves = record { shows = h.shows; few = h.few; chain = rw (R ts rs h.results) (h.chains (get_or (lasts n rs) i 0) (getD_in (lasts n rs) i inside)) }
 
       here : (y : ℕ) → y ≡ resolve s r → left s rs i ≡ cond (eqb y x) (left s rs (i + 1)) (y ∷ left s rs (i + 1))
-      here y e = rw (e, R ts rs h.results, add-one i, drop_cons (lasts n rs) i 0 inside)
+      here y e = rw (e, R ts rs h.results, add-one i, drop-cons (lasts n rs) i 0 inside)
 
     module _ (a : Agreement) (y : Value) (Y : (s : Form) → CanResolve fl c r s → y.0 ≡ resolve s r) (J : Judging a i) where
       rest : {z : Bool} → eqb y.0 x ≡ z → (s : Form) (ts : List Task) (rs : List ℕ) → CanAgree fl wl c n s ts rs

@@ -5,7 +5,7 @@ use mathlib.Core.Path.{◌≡◌, refl, sym, ap, ◌∙◌}
 use mathlib.Core.List.{List}
 use native.Mathlib.Omega.{arith}
 use lib.ListN.{length, get_or, take, drop, length-map, length-take, length-drop}
-use lib.Seq.{get_or_take, get_or-drop, ext_get_or}
+use lib.Seq.{get_or-take, get_or-drop, ext_get_or}
 use Rattle.entity.specs.Limits.{limits, value_room}
 use Rattle.definition.specs.Base.{up_from}
 use Rattle.definition.specs.Form.{Form}
@@ -37,7 +37,7 @@ module _ (l : List ℕ) (c : Counts) (x : ℕ) (s : Form) (h : CanResolve l c x 
       at i lt =
           let li : i < s.next = omega (arith, long, targets_length s) in
           let ln : i < n = omega arith in
-          get_or_take n (drop (base form_sizes 2) l) i 0 ln ∙ get_or-drop (base form_sizes 2) l i 0
+          get_or-take n (drop (base form_sizes 2) l) i 0 ln ∙ get_or-drop (base form_sizes 2) l i 0
           ∙ column_at form_sizes l (form_tables s) 2 h.shows.cells s.next s.target refl i li h.few ∙ sym (up_at s.target 0 s.next i li ∙ ap s.target (omega arith))
 
   abbrev part : List ℕ

@@ -1,4 +1,6 @@
 // Settling a parameter by the results of its block's predecessors: a zero, another name of the one value that they agree on, or arguments.
+#![tactic(auto)]
+
 ghost use Rattle.std.specs.Prelude.{◌≡◌, List, map, ℕ, ◌<◌, length};
 ghost use Rattle.entity.specs.Limits.{limits, value_room};
 ghost use Rattle.entity.specs.Types.{step_of};
@@ -17,11 +19,11 @@ use entity::{Block, Branch, Found, Type, Value};
 use layout::{Counts, TARGET};
 
 // The value that a lookup ends in, with the counts after it.
-#[derive(Drop)]
+#[derive(Clone, Copy)]
 pub struct Finished(pub Value, pub Counts);
 
 // What the predecessors' results say: nothing but the sentinel, one value, or more.
-#[derive(Drop)]
+#[derive(Clone, Copy)]
 pub enum Agreement {
     Nothing,
     One(Value),

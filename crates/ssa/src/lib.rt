@@ -1,4 +1,6 @@
 // Reading a variable, and sealing a block: the rest of the original's ssa.rs, in its order and with its names.
+#![tactic(auto)]
+
 ghost use Rattle.std.specs.Prelude.{◌≡◌, not, List, ◌∷◌, ℕ, ◌<◌, eqb, length};
 ghost use Rattle.entity.specs.Limits.{limits, value_room};
 ghost use Rattle.definition.specs.Base.{up_from};

@@ -9,8 +9,8 @@ use native.Mathlib.Nat.{not-suc-le-zero, le_of_suc-le-suc}
 use native.Mathlib.Omega.{arith}
 use borrow.Author.Tests.{eq-eqb, ne_eqb}
 use lib.Dec.{eqb}
-use lib.ListN.{length, get_or, set, take, length_append}
-use lib.Seq.{get_or_take, take-suc, take-suc-set}
+use lib.ListN.{length, get_or, set, take, length-append}
+use lib.Seq.{get_or-take, take-suc, take-suc-set}
 use Rattle.definition.specs.Base.{◌∷ʳ◌}
 use Rattle.definition.specs.Session.{Done, answered}
 use Rattle.turns.specs.Turns.{Told}
@@ -41,12 +41,12 @@ not_yet {k = k} ds e l = sym (answered_past ds k (omega (arith, e)))
 -- the first cells of a list hold something of each that was done
 module _ (f : Done → ℕ) (ds : List Done) (l : List ℕ) (h : take (length ds) l ≡ map f ds) where
   first_at : (k : ℕ) → k < length ds → get_or (map f ds) k 0 ≡ get_or l k 0
-  first_at k lt = ap (λ (r : List ℕ). get_or r k 0) (sym h) ∙ get_or_take (length ds) l k 0 lt
+  first_at k lt = ap (λ (r : List ℕ). get_or r k 0) (sym h) ∙ get_or-take (length ds) l k 0 lt
 
   -- one more
   first_more : (l' : List ℕ) (d : Done) → take (suc (length ds)) l' ≡ take (length ds) l ++ f d ∷ [] → take (length (ds ∷ʳ d)) l' ≡ map f (ds ∷ʳ d)
   first_more l' d e =
-      let n : length (ds ∷ʳ d) ≡ suc (length ds) = omega (arith, length_append ds (d ∷ [])) in
+      let n : length (ds ∷ʳ d) ≡ suc (length ds) = omega (arith, length-append ds (d ∷ [])) in
       ap (λ (i : ℕ). take i l') n ∙ e ∙ ap (λ (r : List ℕ). r ++ f d ∷ []) h ∙ sym (map-append f ds (d ∷ []))
 
 module _ {ks ls ns : List ℕ} {ds : List Done} (h : Told ks ls ns ds) where

@@ -4,7 +4,7 @@ use Prim.Native.Nat.{ℕ, suc, ◌<◌}
 use mathlib.Core.Path.{◌≡◌, refl}
 use mathlib.Core.List.{List, [], ◌∷◌}
 use native.Mathlib.Omega.{arith}
-use lib.ListN.{length, set, get_or, length_append}
+use lib.ListN.{length, set, get_or, length-append}
 use Rattle.entity.specs.Limits.{limits}
 use Rattle.definition.specs.Base.{◌∷ʳ◌}
 use Rattle.definition.specs.Form.{Graph, Form}
@@ -24,7 +24,7 @@ then t g s d = record { graph = tick g; form = s; done = t.done ∷ʳ d }
 
 -- the call was the one after those that are done
 counted : {gl fl : List ℕ} {c : Counts} {g : Graph} {s : Form} (t : State) (d : Done) → Leaves gl fl c g s → Sure (then t g s d) → c.call ≡ length t.done
-counted t d l h = omega (arith, l.graph.call, h.count, length_append t.done (d ∷ []))
+counted t d l h = omega (arith, l.graph.call, h.count, length-append t.done (d ∷ []))
 
 module _ {gl fl wl : List ℕ} {r : Reply} (t : State) where
   module _ {ks ls ns : List ℕ} {i : ℕ} (told : Told ks ls ns t.done) (at : i ≡ length t.done) (lk : i < length ks) (ll : i < length ls) (ln : i < length ns) where
@@ -44,7 +44,7 @@ module _ {gl fl wl : List ℕ} {r : Reply} (t : State) where
         };
         idle = idle;
       };
-      turns = omega (arith, at, length_append t.done (d ∷ []));
+      turns = omega (arith, at, length-append t.done (d ∷ []));
     }
 
     module _ (c : Call) (kind : c.kind ≡ get_or ks i 0) where

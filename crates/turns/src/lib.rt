@@ -1,4 +1,6 @@
 // The calls in turn, over lists of just the needed length: each is answered, and its answer written beside those before it.
+#![tactic(auto)]
+
 ghost use Rattle.std.specs.Prelude.{◌≡◌, List, suc, ◌<◌, length, get_or};
 ghost use Rattle.entity.specs.Limits.{limits};
 ghost use Rattle.entity.specs.Options.{value_of};

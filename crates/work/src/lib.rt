@@ -1,4 +1,6 @@
 // The two stacks of the lookup machine in lent cells: scheduled calls, and results. Nothing above this crate mentions their cells.
+#![tactic(auto)]
+
 ghost use Rattle.std.specs.Prelude.{◌≡◌, List, ◌∷◌, ℕ, ◌<◌, get_or};
 ghost use Rattle.meaning.specs.Machine.{Task};
 ghost use Rattle.layout.specs.Counts.{one_call, call_less, one_result, task, SmallCall};
@@ -9,7 +11,7 @@ use entity::{Block, Branch, Value};
 use layout::{CALL_BLOCKS, CALL_VALUES, Call, Counts, RESULTS};
 
 // The call that was scheduled last, and the counts without it.
-#[derive(Drop)]
+#[derive(Clone, Copy)]
 pub struct Popped(pub Call, pub Counts);
 
 // Two cells hold a call: a value of 0 marks a read, any other is the parameter to settle, plus one.

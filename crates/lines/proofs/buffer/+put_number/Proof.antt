@@ -6,7 +6,7 @@ use borrow.Fn.Kinds.{In}
 use borrow.Fn.PlainCycle.{Measures, is, falls, and}
 use Prim.Native.Nat.{ℕ, ◌<◌}
 use mathlib.Core.Path.{◌∙◌}
-use lib.ListN.{length_append}
+use lib.ListN.{length-append}
 use Rattle.lines.proofs.Pieces.{decimal_small, decimal_big, sets_append}
 use Rattle.lines.proofs.buffer.poke.Reads as poke-reads
 use Rattle.lines.proofs.buffer.put_number.Kinds as kinds
@@ -34,7 +34,7 @@ returns-2 : (t : ℕ) → lts.Need-returns-2 (poke-reads.Asked, poke-reads.Learn
 returns-2 t c =
     let d = decimal_big _ c.before.before.before.before.before.before.before.before.if1.false in
     let e = c.before.before.before.before.before.before.put-number.ensures.0 in (
-      record { end = rw d (simp length_append (omega (arith, e.end))); out = c.before.before.poke2.ensures ∙ (rw (d, sets_append) (cc (e.end, e.out))) },
+      record { end = rw d (simp length-append (omega (arith, e.end))); out = c.before.before.poke2.ensures ∙ (rw (d, sets_append) (cc (e.end, e.out))) },
       omega arith,
     )
 
