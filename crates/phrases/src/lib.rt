@@ -2,5 +2,6 @@
 #![tactic(auto)]
 
 pub mod out;
+pub mod reason;
 pub mod say;
 pub mod texts;
