@@ -1,5 +1,5 @@
 // Output by way of a lent buffer: n bytes of it wait to be written, and each function answers how many wait after it.
-ghost use Rattle.std.specs.Prelude.{◌≤◌, length};
+ghost use Rattle.std.specs.Prelude.{◌<◌, ◌≤◌, length};
 
 use crate::reason::Words;
 

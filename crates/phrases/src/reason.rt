@@ -1,6 +1,8 @@
 // Why something failed, in the system's words.
+ghost use Rattle.std.specs.Prelude.{◌≤◌};
+
 use std::fmt;
-use std::fmt::Display;
+use std::fmt::{Display, Write};
 use std::io::Error;
 
 // More bytes than such words and their number have.
@@ -15,6 +17,7 @@ pub struct Words<'a>(pub &'a Error);
 struct Text {
     bytes: [u8; ROOM],
     count: usize,
+    ghost in_room: { count ≤ 256 },
 }
 
 impl Text {
@@ -26,7 +29,7 @@ impl Text {
     }
 }
 
-impl fmt::Write for Text {
+impl Write for Text {
     fn write_str(&mut self, s: &str) -> fmt::Result {
         for b in s.as_bytes() {
             self.put(*b);
@@ -44,7 +47,7 @@ fn unnumbered(s: &str) -> &str {
 }
 
 impl Display for Words<'_> {
-    fn fmt<W: fmt::Write>(&self, f: &mut fmt::Formatter<W>) -> fmt::Result {
+    fn fmt<W: Write>(&self, f: &mut fmt::Formatter<W>) -> fmt::Result {
         let mut text = Text {
             bytes: [0; ROOM],
             count: 0,

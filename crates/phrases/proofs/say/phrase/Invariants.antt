@@ -1,0 +1,7 @@
+-- Putting numbers into a text ends: each turn of the loop leaves less of the text before it.
+-- Assumes nothing.
+use Rattle.std.proofs.Common.{length, ◌-◌}
+use Rattle.phrases.proofs.say.phrase.Given as goal
+
+abbrev pub decreases-loop-i : goal.decreases-loop-i
+decreases-loop-i g l = length l.s - l.i

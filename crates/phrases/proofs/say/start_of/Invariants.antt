@@ -1,0 +1,7 @@
+-- Finding a line ends: each turn of the loop leaves less of the text before it.
+-- Assumes nothing.
+use Rattle.std.proofs.Common.{length, ◌-◌}
+use Rattle.phrases.proofs.say.start_of.Given as goal
+
+abbrev pub decreases-loop-i : goal.decreases-loop-i
+decreases-loop-i l = length l.s - l.i
