@@ -1,4 +1,4 @@
--- Putting a text out ends: each turn of the loop leaves less of the text before it.
+-- `text` ends. Each byte is one turn.
 -- Assumes nothing.
 use Rattle.std.proofs.Common.{length, ◌-◌}
 use Rattle.phrases.proofs.out.text.Given as goal

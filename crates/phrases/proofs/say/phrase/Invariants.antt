@@ -1,4 +1,4 @@
--- Putting numbers into a text ends: each turn of the loop leaves less of the text before it.
+-- `phrase` ends. Each byte is one turn.
 -- Assumes nothing.
 use Rattle.std.proofs.Common.{length, ◌-◌}
 use Rattle.phrases.proofs.say.phrase.Given as goal

@@ -1,4 +1,4 @@
--- Finding a line ends: each turn of the loop leaves less of the text before it.
+-- `start_of` ends. Each byte is one turn.
 -- Assumes nothing.
 use Rattle.std.proofs.Common.{length, ◌-◌}
 use Rattle.phrases.proofs.say.start_of.Given as goal
