@@ -175,7 +175,8 @@ Answered ts x = (c : ℕ) × (n : ℕ) × Resolved ts x c n
 -- with l turns to go
 walk_on : {ts : List ℕ} {x at i : ℕ} (l : ℕ) → Walked ts x at i → length ts ≡ i + l → Answered ts x
 walk_on zero w e = (14, 0, went_round w (omega arith))
-walk_on {ts} {x} {at} {i} (suc l) w e = turn (ℕ_discrete (get_or ts at 0) at) (dec_lt (get_or ts at 0) (length ts)) (λ v. walk_on l v (omega arith))
+walk_on {ts} {x} {at} {i} (suc l) w e =
+    turn (ℕ_discrete (get_or ts at 0) at) (dec_lt (get_or ts at 0) (length ts)) (λ v. walk_on {at = get_or ts at 0} {i = i + 1} l v (omega arith))
   where
     turn : Dec (get_or ts at 0 ≡ at) → Dec (get_or ts at 0 < length ts) → (Walked ts x (get_or ts at 0) (i + 1) → Answered ts x) → Answered ts x
     turn (yes p) d rest = (0, at, came_to_end w p)

@@ -7,7 +7,7 @@ use mathlib.Core.List.{List, ◌++◌}
 use native.Mathlib.Omega.{arith}
 use borrow.Author.Tests.{ltb-false, lt-ltb, le-ltb}
 use lib.ListN.{length, drop}
-use lib.Seq.{sets, sets-eq}
+use lib.Seq.{sets-eq}
 use Rattle.entity.specs.Limits.{limits, graph_need, form_need}
 use Rattle.definition.specs.Base.{◌<?◌}
 use Rattle.lines.specs.Text.{text}

@@ -8,7 +8,7 @@ use mathlib.Core.List.{List, ◌++◌}
 use native.Mathlib.Omega.{arith}
 use lib.ListN.{length, take, drop}
 use lib.Seq.{take-append_seam, drop-append_seam}
-use Rattle.definition.specs.Base.{◌=?◌, if◌then◌else◌}
+use Rattle.definition.specs.Base.{if◌then◌else◌}
 use Rattle.meaning.proofs.Maps.{eqb_diff, same?}
 use Rattle.lines.specs.Text.{text}
 use Rattle.draw.specs.Seen.{seen}

@@ -2,7 +2,7 @@
 -- its room. They can be drawn, since every number stored names something that is there.
 -- Assumes nothing.
 use Prim.Native.Nat.{ℕ, ◌+◌, ◌*◌, ◌/◌, ◌%◌, ◌≤◌, ◌<◌}
-use mathlib.Core.Path.{◌≡◌, refl, sym, ap, ◌∙◌, subst}
+use mathlib.Core.Path.{◌≡◌, refl, ap, ◌∙◌, subst}
 use mathlib.Core.Logic.{inl, inr}
 use mathlib.Core.Bool.{Bool, true, false, not, cond}
 use mathlib.Core.List.{List, [], ◌∷◌, ◌++◌}
@@ -17,7 +17,6 @@ use Rattle.definition.specs.Whole.{needs}
 use Rattle.meaning.specs.Path.{In}
 use Rattle.meaning.specs.Rooms.{Rooms}
 use Rattle.meaning.specs.Stored.{Stored}
-use Rattle.meaning.proofs.Lists.{getD_in}
 use Rattle.meaning.proofs.Rest.{up_below}
 use Rattle.meaning.proofs.Theorems.{rooms_suffice, numbers_named}
 use Rattle.layout.specs.Cells.{Holds}

@@ -1,16 +1,16 @@
 -- The tests of the tables. A loop over a list tests what is left of it; together they decide `Drawable`.
 -- Assumes nothing.
-use Prim.Native.Nat.{ℕ, zero, suc, ◌+◌, ◌-◌, ◌<◌, ◌≤◌}
-use mathlib.Core.Path.{◌≡◌, refl, sym, ap, ◌∙◌}
+use Prim.Native.Nat.{ℕ, suc, ◌+◌, ◌-◌, ◌<◌, ◌≤◌}
+use mathlib.Core.Path.{◌≡◌, sym, ap, ◌∙◌}
 use mathlib.Core.Bool.{Bool, true, false, not, ◌&&◌, ◌||◌}
-use mathlib.Core.List.{List, [], ◌∷◌}
+use mathlib.Core.List.{List, ◌∷◌}
 use native.Mathlib.Numerals.{add-one}
 use native.Mathlib.Omega.{arith}
-use borrow.Author.Tests.{ltb-true, leb-true, lt-ltb, le-leb, lt-leb, eq-eqb, ne_eqb}
+use borrow.Author.Tests.{ltb-true, leb-true, lt-ltb, le-leb, lt-leb}
 use lib.ListN.{length, get_or, drop, drop_of_length-le}
 use lib.Seq.{drop-cons}
 use Rattle.entity.specs.Limits.{limits, value_room, param_room}
-use Rattle.definition.specs.Base.{◌=?◌, ◌<?◌, ◌≤?◌, every, up_from}
+use Rattle.definition.specs.Base.{◌<?◌, ◌≤?◌, every, up_from}
 use Rattle.meaning.proofs.Decide.{Decides, turned, both, implied, each}
 use Rattle.meaning.proofs.Maps.{and_both}
 use Rattle.meaning.proofs.Rest.{up_below}

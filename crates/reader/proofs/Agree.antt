@@ -11,8 +11,7 @@ use Rattle.reader.specs.declared.Asked.{Asked}
 use Rattle.reader.specs.Rows.{head, known, code_of, IsRow}
 
 module _ {t : Bor (List ℕ)} {a : Asked} {r : Bor (List ℕ)} {code : ℕ} (p : IsRow t a r) (e : code ≡ code_of t.now a) where
-  -- Any two answers that meet the promises are the same: the parts start in the same place and hold the same, and the codes are equal. (Besides, a
-  -- reference has in the logic the name of its loan, which no program sees.)
+  -- Any two answers that meet the promises are the same: the parts start in the same place and hold the same, and the codes are equal.
   pub determined : {r' : Bor (List ℕ)} {code' : ℕ} → IsRow t a r' → code' ≡ code_of t.now a
       → (r.ref_ptr ≡ r'.ref_ptr) × (r.now ≡ r'.now) × (code ≡ code')
   determined p' e' = (p.start ∙ sym p'.start, p.cells ∙ sym p'.cells, e ∙ sym e')

@@ -9,8 +9,7 @@ use native.Mathlib.Omega.{arith}
 use borrow.Author.Tests.{leb-true, le-leb, lt-leb}
 use lib.ListN.{length, get_or, take, drop, length-drop}
 use lib.Seq.{length-take-le}
-use base.Fml.{GName}
-use denote.Ref.{MutBor}
+use denote.Ref.{Bor}
 use Rattle.entity.specs.Limits.{limits, param_room}
 use Rattle.definition.specs.Base.{◌≤?◌, if◌then◌else◌}
 use Rattle.meaning.proofs.Maps.{and_both}
@@ -71,8 +70,8 @@ module _ {a : Asked} {code s n : ℕ} where
   located_within {t} f = rw (f.start_is, f.length_is) (row_within t a)
 
   -- the part from cell s to cell s + n is the row
-  pub located_part : {t : MutBor (List ℕ)} {γ : GName} → Located t.now a code s n
-      → IsRow t a record { ref_ptr = (t.ref_ptr.0, s * 4 + t.ref_ptr.1); ghost_name = γ; now = take (s + n - s) (drop s t.now) }
+  pub located_part : {t : Bor (List ℕ)} → Located t.now a code s n
+      → IsRow t a record { ref_ptr = (t.ref_ptr.0, s * 4 + t.ref_ptr.1); now = take (s + n - s) (drop s t.now) }
   located_part {t} f =
       let e : take (s + n - s) (drop s t.now) ≡ take (row_of t.now a).1 (drop (row_of t.now a).0 t.now)
       = rw (add-sub_cancel_left, f.start_is, f.length_is) in

@@ -1,8 +1,8 @@
 -- The first recorded value from a number on: the cell there decides, or the rest does. And in the descriptions that a session leaves a value is marked just
 -- where the definition has it recorded, since a cell is its parts packed.
 -- Assumes nothing.
-use Prim.Native.Nat.{ℕ, suc, ◌+◌, ◌≤◌, ◌<◌}
-use mathlib.Core.Path.{◌≡◌, refl, sym, ap, ◌∙◌}
+use Prim.Native.Nat.{ℕ, ◌+◌, ◌≤◌, ◌<◌}
+use mathlib.Core.Path.{◌≡◌, refl, ap, ◌∙◌}
 use mathlib.Core.Bool.{Bool, true, false}
 use mathlib.Core.List.{List}
 use native.Mathlib.Numerals.{add-one}
@@ -11,10 +11,8 @@ use borrow.Author.Tests.{lt-ltb, le-ltb}
 use lib.Dec.{eqb, ltb}
 use lib.ListN.{length, get_or, take, drop, length-drop, drop_of_length-le}
 use lib.Seq.{drop-cons, length-take-le, get_or-take, get_or-drop}
-use Rattle.entity.specs.Types.{type_count}
 use Rattle.entity.specs.Described.{mark_of}
 use Rattle.entity.proofs.Packing.{mark_packed}
-use Rattle.definition.specs.Form.{Form}
 use Rattle.definition.specs.Session.{Call, session, bit}
 use Rattle.definition.specs.Tables.{sort_number}
 use Rattle.definition.specs.Whole.{needs}
@@ -26,7 +24,7 @@ use Rattle.layout.specs.Outcome.{Lent, first, shown}
 use Rattle.layout.proofs.Cells.{holds_more, render_held}
 use Rattle.layout.proofs.Columns.{column_at}
 use Rattle.layout.proofs.Same.{sort_small, bit_small}
-use Rattle.reader.specs.Marks.{marked, recorded_of, next_of, IsRecorded}
+use Rattle.reader.specs.Marks.{recorded_of, next_of, IsRecorded}
 
 -- ---- what the code says
 
