@@ -102,7 +102,7 @@ def lost_edits(text):
             if not found:
                 continue
             folder = found[1] or folder
-            at = [f"crates/{folder}/must-fail", f"crates/{folder}/more-edits", ".ci/slips.d"]
+            at = [f"crates/{folder}/must-fail", f"crates/{folder}/must-fail-more", ".ci/slips.d"]
             if ("_" in found[2] or found[1]) and not any(os.path.exists(f"{it}/{found[2]}.edit") for it in at):
                 lost.add(f"{folder}/{found[2]}.edit")
     return lost
