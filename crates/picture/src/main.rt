@@ -1,8 +1,9 @@
 // The second program: runs lists of calls and prints a picture of what each session leaves.
 #![tactic(auto)]
 
-fn main() {
+fn main(rt: HostRuntime) {
     program::start(
+        rt,
         b"picture",
         b"picture [FILE..]
 

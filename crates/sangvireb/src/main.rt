@@ -1,8 +1,9 @@
 // The program: runs lists of calls and prints what each session leaves, line by line.
 #![tactic(auto)]
 
-fn main() {
+fn main(rt: HostRuntime) {
     program::start(
+        rt,
         b"sangvireb",
         b"sangvireb [--words] [FILE..]
 
