@@ -21,8 +21,7 @@ returns-in-Some c =
     ∙ c.loop-b.invariant.1 s p
 
 pub loop-b-preserved : goal.loop-b-preserved
-loop-b-preserved c =
-    (
+loop-b-preserved c = (
   omega arith,
   λ s p.
       let lt = c.loop-b-test.true in

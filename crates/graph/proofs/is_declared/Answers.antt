@@ -14,8 +14,7 @@ returns-then-is_predecessor c =
     ∙ c.loop-i.invariant.1 g s
 
 pub loop-i-preserved : goal.loop-i-preserved
-loop-i-preserved c =
-    (
+loop-i-preserved c = (
   omega arith,
   λ g s.
       not_here g s _ _ (omega (arith, c.dest_count-n.ensures.value g s)) _ (c.dest-b.ensures.result_value g s) (sym (c.is_predecessor.ensures g s) ∙ c.if-is_predecessor.false)
