@@ -10,7 +10,7 @@ use lib.ListN.{length, length-append}
 use native.Mathlib.Nat.{le_refl, le_trans}
 use native.Mathlib.Omega.{arith}
 use Rattle.entity.specs.Types.{step_of}
-use Rattle.definition.specs.Base.{every, without}
+use Rattle.definition.specs.Base.{every, without, before}
 use Rattle.definition.specs.Form.{Graph, Form, def, with_args}
 use Rattle.definition.specs.Read.{Got, mark, resolve, settle_left, alias, feed_all, read_all, fill, begin, walk, read_past, read_on, read, depth, wait, new_param}
 use Rattle.definition.specs.Read.{set_pending, settle_pending, place_block, log_zero, emit_step}
@@ -53,7 +53,7 @@ module _ (g : Graph) (rec : ℕ → Form → Got) (more : (p : ℕ) (s : Form) �
 
   past_more : (v : ℕ) (s : Form) (bs : List ℕ) (c : ℕ) (o : Option ℕ) → More s (read_past rec g v s bs c o).1
   past_more v s bs c (some x) = mark_more v x bs s s (le_refl _)
-  past_more v s bs c none = begin_more v c s.next _ (new_param g v c s) (g.sealed c)
+  past_more v s bs c none = begin_more v c s.next (before c bs) (new_param g v c s) (g.sealed c)
 
   on_more : (v b : ℕ) (s : Form) (o : Option ℕ) → More s (read_on rec g v b s o).1
   on_more v b s (some x) = le_refl _

@@ -1,6 +1,6 @@
 -- Small things that the definition uses: tests, maps as functions, lists of numbers.
 -- Assumes nothing.
-use Rattle.std.specs.Prelude.{ℕ, zero, suc, Bool, true, false, cond, ◌&&◌, ◌||◌, List, [], ◌∷◌, ◌++◌, eqb, ltb, leb}
+use Rattle.std.specs.Prelude.{ℕ, zero, suc, Bool, true, false, cond, ◌&&◌, ◌||◌, List, [], ◌∷◌, ◌++◌, eqb, ltb, leb, if◌then◌else◌}
 use Rattle.std.proofs.Math.Option.{Option, none, some}
 
 -- What a number stands for. A branch bears its block's number.
@@ -23,13 +23,9 @@ x <? y = ltb x y
 abbrev pub ◌≤?◌ : ℕ → ℕ → Bool
 x ≤? y = leb x y
 
-infixr 10 if◌then◌else◌
-abbrev pub if◌then◌else◌ {ℓ} : {A : Type ℓ} → Bool → A → A → A
-if◌then◌else◌ c a b = cond c a b
-
 -- the map f, but a at k
 abbrev pub put {ℓ} : {A : Type ℓ} → ℕ → A → (ℕ → A) → ℕ → A
-put k a f j = if j =? k then a else f j
+put k a f j = cond (j =? k) a (f j)
 
 -- the map f of two keys, but a at (k, l)
 abbrev pub put₂ {ℓ} : {A : Type ℓ} → ℕ → ℕ → A → (ℕ → ℕ → A) → ℕ → ℕ → A

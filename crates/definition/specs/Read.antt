@@ -1,9 +1,9 @@
 -- Reading and writing a variable, settling a parameter: Braun and others, algorithms 1 to 4.
 -- P1 to P8 mark where the crate departs from the paper; docs/DIFFERENCES.md has them with their reasons. Assumes nothing.
-use Rattle.std.specs.Prelude.{ℕ, zero, suc, Bool, true, false, ◌&&◌, List, [], ◌∷◌, map, eqb, get_or}
+use Rattle.std.specs.Prelude.{ℕ, zero, suc, Bool, true, false, ◌&&◌, List, [], ◌∷◌, map, eqb, get_or, if◌then◌else◌}
 use Rattle.std.proofs.Math.Option.{Option, none, some}
 use Rattle.entity.specs.Types.{step_of}
-use Rattle.definition.specs.Base.{Block, Variable, Value, ◌=?◌, if◌then◌else◌, put, put₂, ◌∷ʳ◌, has, every, without, before}
+use Rattle.definition.specs.Base.{Block, Variable, Value, ◌=?◌, put, put₂, ◌∷ʳ◌, has, every, without, before}
 use Rattle.definition.specs.Form.{Graph, Form, Sort, param, nought, def, with_next, with_info, with_target}
 use Rattle.definition.specs.Form.{with_params, with_args, with_pending, with_entry, with_own, with_zeros, with_placed, with_recorded}
 

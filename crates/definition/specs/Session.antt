@@ -1,10 +1,10 @@
 -- The seventeen calls, with their refusals in order, and a session: the calls in turn.
 -- Assumes nothing.
-use Rattle.std.specs.Prelude.{ℕ, zero, suc, ◌-◌, Bool, true, false, not, ◌&&◌, ◌||◌, List, [], ◌∷◌, map, length, get_or}
+use Rattle.std.specs.Prelude.{ℕ, zero, suc, ◌-◌, Bool, true, false, not, ◌&&◌, ◌||◌, List, [], ◌∷◌, map, length, get_or, if◌then◌else◌}
 use Rattle.std.proofs.Math.Option.{Option, none, some}
 use Rattle.entity.specs.Limits.{limits}
 use Rattle.entity.specs.Types.{type_count}
-use Rattle.definition.specs.Base.{Block, Variable, Value, ◌=?◌, ◌<?◌, ◌≤?◌, if◌then◌else◌, put, put₂, is_some, ◌∷ʳ◌, has, any, position, up_from}
+use Rattle.definition.specs.Base.{Block, Variable, Value, ◌=?◌, ◌<?◌, ◌≤?◌, put, put₂, is_some, ◌∷ʳ◌, has, any, position, up_from}
 use Rattle.definition.specs.Form.{Graph, Form, def, made, caller, graph, form, with_call, with_blocks, with_types, with_branch}
 use Rattle.definition.specs.Form.{with_dests, with_preds, with_sealed, with_declared, with_marks, with_makes, with_owns, with_args}
 use Rattle.definition.specs.Read.{type_of, write, record_binding, make, place_block, set_params, set_pending, read, depth, settle_pending}
@@ -100,7 +100,7 @@ module _ (g : Graph) (s : Form) where
   declare_block b =
       refuse 4 when limits.blocks ≤? b else
       refuse 5 when g.blocks <? b else
-      if b <? g.blocks then ok b g s else ok b (with_blocks g (suc b)) (if b =? 0 then place_block 0 s else s)
+      (if b <? g.blocks then ok b g s else ok b (with_blocks g (suc b)) (if b =? 0 then place_block 0 s else s))
 
   -- kind 2
   abbrev pub declare_var : Variable → ℕ → Reply
@@ -109,7 +109,7 @@ module _ (g : Graph) (s : Form) where
       refuse 5 when length g.types <? v else
       refuse 6 when no_type ty else
       refuse 7 when (v <? length g.types && not (ty =? type_of g v)) else
-      if v <? length g.types then ok v g s else ok v (with_types g (g.types ∷ʳ ty)) s
+      (if v <? length g.types then ok v g s else ok v (with_types g (g.types ∷ʳ ty)) s)
 
   -- kind 3
   abbrev pub make_value : Block → ℕ → Reply

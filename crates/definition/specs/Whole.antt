@@ -1,8 +1,8 @@
 -- A whole session: the lengths of what is lent decide whether it is run at all; if it is, the calls are run in turn.
 -- Assumes nothing.
-use Rattle.std.specs.Prelude.{ℕ, ◌≡◌, refl, Bool, not, ◌&&◌, ◌||◌, List, [], ◌∷◌, length}
+use Rattle.std.specs.Prelude.{ℕ, ◌≡◌, refl, Bool, not, ◌&&◌, ◌||◌, List, [], ◌∷◌, length, if◌then◌else◌}
 use Rattle.entity.specs.Limits.{limits, graph_need, form_need, work_need}
-use Rattle.definition.specs.Base.{◌=?◌, ◌<?◌, if◌then◌else◌}
+use Rattle.definition.specs.Base.{◌=?◌, ◌<?◌}
 use Rattle.definition.specs.Session.{Call}
 
 -- the calls, from four lists of equal length: kinds, xs, ys, zs

@@ -1,5 +1,6 @@
 -- The promise determines code, length and every byte of the buffer, since each is computed from what was lent.
 -- Assumes nothing.
+use Rattle.std.specs.Prelude.{if◌then◌else◌}
 use Prim.Native.Nat.{ℕ, ◌≤◌}
 use mathlib.Core.Path.{◌≡◌, sym, ap, ◌∙◌}
 use mathlib.Core.Logic.{inl, inr}
@@ -8,7 +9,6 @@ use mathlib.Core.List.{List, ◌++◌}
 use native.Mathlib.Omega.{arith}
 use lib.ListN.{length, take, drop}
 use lib.Seq.{take-append_seam, drop-append_seam}
-use Rattle.definition.specs.Base.{if◌then◌else◌}
 use Rattle.meaning.proofs.Maps.{eqb_diff, same?}
 use Rattle.lines.specs.Text.{text}
 use Rattle.draw.specs.Seen.{seen}

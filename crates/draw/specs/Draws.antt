@@ -1,8 +1,8 @@
 -- What a drawing answers, and what it leaves in the buffer.
 -- Assumes nothing.
-use Rattle.std.specs.Prelude.{ℕ, ◌≡◌, not, ◌||◌, List, ◌++◌, length, drop}
+use Rattle.std.specs.Prelude.{ℕ, ◌≡◌, not, ◌||◌, List, ◌++◌, length, drop, if◌then◌else◌}
 use Rattle.entity.specs.Limits.{limits, graph_need, form_need}
-use Rattle.definition.specs.Base.{◌=?◌, ◌<?◌, if◌then◌else◌}
+use Rattle.definition.specs.Base.{◌=?◌, ◌<?◌}
 use Rattle.lines.specs.Text.{text}
 use Rattle.drawable.specs.Fits.{drawable}
 use Rattle.draw.specs.Seen.{seen}

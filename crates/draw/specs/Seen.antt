@@ -1,7 +1,6 @@
 -- What the lent cells say of a picture, whatever they hold.
 -- Assumes nothing.
-use Rattle.std.specs.Prelude.{ℕ, List, []}
-use Rattle.definition.specs.Base.{if◌then◌else◌}
+use Rattle.std.specs.Prelude.{ℕ, List, [], if◌then◌else◌}
 use Rattle.definition.specs.Form.{Graph, Form}
 use Rattle.layout.specs.Rows.{entries}
 use Rattle.lines.specs.Text.{Picture}

@@ -66,7 +66,7 @@ cell_swapped xs k v j lt =
     ap (λ (q : ℕ). cond (eqb j 0) (length xs - 1) (cond (eqb j (length xs)) 0 q)) (cell_set xs k v j lt)
     ∙ ap (λ (n : ℕ). put 0 (n - 1) (put n 0 (cell (set xs k v))) j) (sym (length-set xs k v)) ∙ cell_but_last (set xs k v) j (rw length-set (omega arith))
 
--- ---- the definition's swap-out
+-- ---- the definition's swap_out
 
 module _ (x v : ℕ) where
   abbrev swap : ℕ → ℕ

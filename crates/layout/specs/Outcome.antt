@@ -1,7 +1,7 @@
 -- What a session answers, and what it does to all that it is lent.
 -- Assumes nothing.
-use Rattle.std.specs.Prelude.{ℕ, ◌≡◌, List, [], ◌++◌, map, length, take, drop}
-use Rattle.definition.specs.Base.{◌=?◌, if◌then◌else◌}
+use Rattle.std.specs.Prelude.{ℕ, ◌≡◌, List, [], ◌++◌, map, length, take, drop, if◌then◌else◌}
+use Rattle.definition.specs.Base.{◌=?◌}
 use Rattle.definition.specs.Session.{State, session}
 use Rattle.definition.specs.Whole.{calls, Lengths, needs, whole_answer}
 use Rattle.layout.specs.Layout.{render_graph, render_form, render_work}

@@ -6,10 +6,10 @@
 --   b1 -> b1 [label="v2"];
 --   }
 -- Assumes nothing.
-use Rattle.std.specs.Prelude.{ℕ, zero, suc, ◌+◌, ◌/◌, ◌%◌, List, [], ◌∷◌, ◌++◌, length, get_or}
+use Rattle.std.specs.Prelude.{ℕ, zero, suc, ◌+◌, ◌/◌, ◌%◌, List, [], ◌∷◌, ◌++◌, length, get_or, if◌then◌else◌}
 use Prim.Native.Char.{code}
 use Prim.Native.String.{String, [] as nothing, ◌∷◌ as ◌then◌}
-use Rattle.definition.specs.Base.{◌<?◌, if◌then◌else◌, ◌∷ʳ◌, up_from}
+use Rattle.definition.specs.Base.{◌<?◌, ◌∷ʳ◌, up_from}
 
 -- what is drawn
 pub record Picture : Type 0 where

@@ -1,7 +1,7 @@
 -- Stack maps: which values are in the set, by the calls; what stands for a marked variable is in it; and marks change nothing else. Assumes nothing.
-use Rattle.std.specs.Prelude.{ℕ, ◌<◌, ◌≤◌, ◌≡◌, ◌⊎◌, ◌≢◌, true, false, List, [], ◌∷◌, ◌++◌, map}
+use Rattle.std.specs.Prelude.{ℕ, ◌<◌, ◌≤◌, ◌≡◌, ◌⊎◌, ◌≢◌, true, false, List, [], ◌∷◌, ◌++◌, map, if◌then◌else◌}
 use Rattle.std.proofs.Math.Option.{some}
-use Rattle.definition.specs.Base.{Block, Variable, Value, ◌=?◌, if◌then◌else◌, ◌∷ʳ◌}
+use Rattle.definition.specs.Base.{Block, Variable, Value, ◌=?◌, ◌∷ʳ◌}
 use Rattle.definition.specs.Form.{Graph, Form, nought, def, with_marks, with_recorded}
 use Rattle.definition.specs.Read.{set_pending, settle_pending}
 use Rattle.definition.specs.Session.{Call, Done, State, session, mark_sealed}

@@ -1,5 +1,6 @@
 -- Whether a table has a row, and where it then lies: each test of `locate` fixes one of the three conjuncts of `known`.
 -- Assumes nothing.
+use Rattle.std.specs.Prelude.{if◌then◌else◌}
 use Prim.Native.Nat.{ℕ, ◌+◌, ◌-◌, ◌*◌, ◌≤◌, ◌<◌}
 use mathlib.Core.Path.{◌≡◌, refl, ap, ◌∙◌}
 use mathlib.Core.Bool.{Bool, true, false, and-false, ◌&&◌}
@@ -11,7 +12,7 @@ use lib.ListN.{length, get_or, take, drop, length-drop}
 use lib.Seq.{length-take-le}
 use denote.Ref.{Bor}
 use Rattle.entity.specs.Limits.{limits, param_room}
-use Rattle.definition.specs.Base.{◌≤?◌, if◌then◌else◌}
+use Rattle.definition.specs.Base.{◌≤?◌}
 use Rattle.meaning.proofs.Maps.{and_both}
 use Rattle.layout.specs.Layout.{param_row}
 use Rattle.reader.specs.declared.Asked.{Asked}

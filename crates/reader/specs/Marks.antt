@@ -1,8 +1,8 @@
 -- Which values are recorded for stack maps, by the cells of their descriptions, one for each value.
 -- Assumes nothing.
-use Rattle.std.specs.Prelude.{ℕ, suc, ◌≡◌, Bool, List, [], ◌∷◌, length, get_or}
+use Rattle.std.specs.Prelude.{ℕ, suc, ◌≡◌, Bool, List, [], ◌∷◌, length, get_or, if◌then◌else◌}
 use Rattle.entity.specs.Described.{mark_of}
-use Rattle.definition.specs.Base.{◌=?◌, ◌<?◌, if◌then◌else◌}
+use Rattle.definition.specs.Base.{◌=?◌, ◌<?◌}
 use Rattle.definition.specs.Session.{bit}
 
 abbrev pub marked : ℕ → Bool

@@ -1,9 +1,9 @@
 -- Which row is asked for, whether a table has it, and where it lies there.
 -- Assumes nothing.
-use Rattle.std.specs.Prelude.{ℕ, ◌+◌, ◌*◌, ◌≡◌, Bool, ◌&&◌, List, length, get_or, take, drop}
+use Rattle.std.specs.Prelude.{ℕ, ◌+◌, ◌*◌, ◌≡◌, Bool, ◌&&◌, List, length, get_or, take, drop, if◌then◌else◌}
 use Rattle.std.specs.Borrow.{Bor}
 use Rattle.entity.specs.Limits.{limits, param_room}
-use Rattle.definition.specs.Base.{◌<?◌, ◌≤?◌, if◌then◌else◌}
+use Rattle.definition.specs.Base.{◌<?◌, ◌≤?◌}
 use Rattle.layout.specs.Layout.{param_row}
 use Rattle.reader.specs.declared.Asked.{Asked}
 use Rattle.reader.specs.declared.Asked.TheVariants.{Params, Args}

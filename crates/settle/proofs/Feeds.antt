@@ -1,5 +1,6 @@
 -- Arguments appended one destination after the other, and one predecessor after the other: what was done so far is feeding the first of them.
 -- Assumes nothing.
+use Rattle.std.specs.Prelude.{if◌then◌else◌}
 use Prim.Native.Nat.{ℕ, zero, suc, ◌+◌, ◌≤◌, ◌<◌}
 use mathlib.Core.Path.{◌≡◌, refl, sym, ap, ◌∙◌, subst, fun_ext}
 use mathlib.Core.Logic.{◌≢◌, ◌⊎◌, inl, inr}
@@ -9,7 +10,7 @@ use native.Mathlib.Omega.{arith}
 use native.Mathlib.Numerals.{add-one}
 use lib.ListN.{length, get_or, take, drop}
 use lib.Seq.{take_all, take-suc, length-take-le, split_at}
-use Rattle.definition.specs.Base.{◌=?◌, if◌then◌else◌, put₂, ◌∷ʳ◌}
+use Rattle.definition.specs.Base.{◌=?◌, put₂, ◌∷ʳ◌}
 use Rattle.definition.specs.Form.{Graph, Form, with_args}
 use Rattle.definition.specs.Read.{is_dest, feed, feed_all}
 use Rattle.meaning.specs.Path.{In}

@@ -10,7 +10,7 @@ use native.Mathlib.Nat.{le_trans, not-suc-le-zero}
 use native.Mathlib.Omega.{arith}
 use borrow.Author.Tests.{ne_eqb}
 use lib.Dec.{eqb}
-use lib.ListN.{length, get_or, drop}
+use lib.ListN.{length, get_or}
 use Rattle.entity.specs.Limits.{limits}
 use Rattle.entity.specs.declared.Value.{Value}
 use Rattle.definition.specs.Form.{Graph, Form, def}
@@ -25,7 +25,7 @@ use Rattle.meaning.proofs.Turns.{goes_on}
 use Rattle.layout.specs.declared.Counts.{Counts}
 use Rattle.layout.specs.Cells.{base}
 use Rattle.layout.specs.Counts.{results_less}
-use Rattle.layout.specs.Layout.{form_sizes, graph_sizes, Stacks, Shown}
+use Rattle.layout.specs.Layout.{form_sizes, graph_sizes, Shown}
 use Rattle.layout.proofs.Rows.{row_count}
 use Rattle.layout.proofs.Stacks.{stacks_drop}
 use Rattle.graph.specs.Seen.{preds_start}

@@ -1,6 +1,7 @@
 -- `predecessors_lookup` meets its contract: the scheduled calls are the start of a run, which ends with what filling the parameter does.
 -- Assumes nothing.
-use Rattle.ssa.proofs.Uses.{begin_can, fill_run, has_filled}
+use Rattle.std.proofs.Common.{[]}
+use Rattle.ssa.proofs.Uses.{type_can, begin_can, fill_run, has_filled}
 use Rattle.ssa.proofs.predecessors_lookup.Goals as goal
 
 pub begin_predecessors_lookup-d-requires : goal.begin_predecessors_lookup-d-requires
@@ -14,3 +15,6 @@ returns c =
     λ g s h.
     let S = c.begin_predecessors_lookup-d.ensures in
     has_filled h c.variable_type-ty.ensures S (c.run_state_machine-f.ensures g _ _ _ (fill_run h c.variable_type-ty.ensures S)) c.with_values.ensures
+
+pub variable_type-ty-requires-clause-var_lt_variables : goal.variable_type-ty-requires-clause-var_lt_variables
+variable_type-ty-requires-clause-var_lt_variables c = type_can c.requires.2

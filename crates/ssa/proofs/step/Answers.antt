@@ -4,7 +4,7 @@ use Rattle.ssa.proofs.Turns.{use_can, turned_look, settle_can, answer_can, turne
 use Rattle.ssa.proofs.step.Goals as goal
 
 pub use_var_nonlocal-requires : goal.use_var_nonlocal-requires
-use_var_nonlocal-requires c = let p = c.requires in (p.0, p.4, p.2, p.3, use_can p.5 _ c.pop_call-popped.ensures c.in-FinishPredecessorsLookup.is)
+use_var_nonlocal-requires c = let p = c.requires in (p.0, p.4, p.2, p.3, use_can p.5 _ c.pop_call-popped.ensures c.in-UseVar.is)
 
 pub finish_predecessors_lookup-f-requires : goal.finish_predecessors_lookup-f-requires
 finish_predecessors_lookup-f-requires c = let p = c.requires in (p.0, p.4, p.2, p.3, settle_can p.5 _ c.pop_call-popped.ensures c.in-FinishPredecessorsLookup.is)
