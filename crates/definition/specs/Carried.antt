@@ -1,7 +1,7 @@
 -- Lists beyond the starred ones: parameters of the caller's own, and definitions that come late. As there one claim says all answers and every table that each
 -- leaves, proved by computation; what is expected is what the crate itself left, with the rules that requests 04 and 09 add.
 -- Assumes nothing.
-use Rattle.std.specs.Prelude.{ℕ, ◌≡◌, refl, List, [], ◌∷◌, ◌++◌, map}
+use Rattle.std.specs.Prelude.{◌≡◌, refl, List, [], ◌∷◌, ◌++◌, map}
 use Rattle.entity.specs.Types.{i8, i32, type_count}
 use Rattle.definition.specs.Session.{Call, session}
 use Rattle.definition.specs.Calls.{declare_var, make_value, define, define_answer, use_var, new_branch, new_dest, add_pred, drop_pred, seal, seal_all}

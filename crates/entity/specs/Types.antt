@@ -1,8 +1,7 @@
 -- The types, a line each: what a lane holds and how many there are. Width, steps of a zero and bits of the unset value follow from that by one rule each.
 -- Assumes nothing.
-use Rattle.std.specs.Prelude.{ℕ, zero, suc, ◌+◌, ◌-◌, ◌*◌, ◌/◌, ◌%◌, ◌^◌, ◌≡◌, Bool, true, false, cond, List, [], ◌∷◌, ltb, leb, length, get_or}
+use Rattle.std.specs.Prelude.{ℕ, zero, suc, ◌+◌, ◌-◌, ◌*◌, ◌/◌, ◌%◌, ◌^◌, ◌≡◌, cond, List, [], ◌∷◌, ltb, leb, length, get_or}
 use Rattle.std.proofs.Math.Option.{Option, none, some}
-use Rattle.entity.specs.declared.Type.{«Type»}
 use Rattle.entity.specs.declared.Found.{Found}
 use Rattle.entity.specs.declared.Shape.{Shape}
 

@@ -1,6 +1,6 @@
 -- The zero log and the blocks placed: tables of one row each. A zero goes to the same place of two rows.
 -- Assumes nothing.
-use Prim.Native.Nat.{ℕ, zero, ◌+◌, ◌≤◌, ◌<◌}
+use Prim.Native.Nat.{ℕ, ◌+◌, ◌≤◌, ◌<◌}
 use mathlib.Core.Path.{◌≡◌, refl, sym, ◌∙◌}
 use mathlib.Core.Bool.{true, false}
 use mathlib.Core.List.{List, [], ◌∷◌, map-append}

@@ -1,6 +1,6 @@
 -- What a session answers, and what it does to all that it is lent.
 -- Assumes nothing.
-use Rattle.std.specs.Prelude.{ℕ, ◌≡◌, List, [], ◌++◌, map, length, take, drop, if◌then◌else◌}
+use Rattle.std.specs.Prelude.{ℕ, ◌≡◌, List, ◌++◌, map, length, take, drop, if◌then◌else◌}
 use Rattle.definition.specs.Base.{◌=?◌}
 use Rattle.definition.specs.Session.{State, session}
 use Rattle.definition.specs.Whole.{calls, Lengths, needs, whole_answer}

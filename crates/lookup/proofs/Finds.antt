@@ -1,7 +1,7 @@
 -- find_var: what holds at each of its calls, and what its three ways out leave. Where the walk stopped there is room for a parameter, since nothing is
 -- recorded there, and the parameter made is the definition's.
 -- Assumes nothing.
-use Prim.Native.Nat.{ℕ, suc, ◌-◌, ◌<◌}
+use Prim.Native.Nat.{ℕ, suc, ◌<◌}
 use mathlib.Core.Path.{◌≡◌, refl, sym, ap, ◌∙◌, subst}
 use mathlib.Core.Bool.{Bool, true, false}
 use mathlib.Core.Option.{Option, none, some}

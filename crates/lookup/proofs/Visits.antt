@@ -1,7 +1,7 @@
 -- use_var_nonlocal: the blocks that the walk passed, up to the first meeting with where it stopped, are the way back, and none of them defines the
 -- variable; the machine's visit is what find_var leaves with these blocks marked.
 -- Assumes nothing.
-use Prim.Native.Nat.{ℕ, suc, ◌-◌, ◌≤◌, ◌<◌}
+use Prim.Native.Nat.{ℕ, suc, ◌≤◌, ◌<◌}
 use mathlib.Core.Path.{◌≡◌, refl, sym, ap, ◌∙◌, subst}
 use mathlib.Core.Logic.{◌≢◌, ◌⊎◌, inl, inr}
 use mathlib.Core.Bool.{Bool, true, false, cond}

@@ -6,7 +6,7 @@ use mathlib.Core.Logic.{◌⊎◌, inl, inr}
 use mathlib.Core.List.{List, [], ◌∷◌, ◌++◌}
 use lib.ListN.{length, get_or}
 use native.Mathlib.Nat.{not-suc-le-zero, le_of_suc-le-suc}
-use Rattle.definition.specs.Form.{Sort, param, caller}
+use Rattle.definition.specs.Form.{Sort}
 use Rattle.definition.specs.Session.{Call, State, session}
 use Rattle.meaning.specs.Path.{In, Mem, res, bring, zeroed, enter}
 use Rattle.meaning.specs.Stored.{Nodup}

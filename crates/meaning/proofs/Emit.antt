@@ -2,10 +2,9 @@
 -- in two steps and of one in a single step is shown once.
 -- Assumes nothing.
 use Prim.Native.Nat.{ℕ, suc, ◌<◌, ◌≤◌}
-use mathlib.Core.Path.{◌≡◌, refl, sym, ◌∙◌}
+use mathlib.Core.Path.{◌≡◌, refl, sym}
 use mathlib.Core.Option.{Option, none, some}
 use native.Mathlib.Omega.{arith}
-use Rattle.definition.specs.Base.{put}
 use Rattle.definition.specs.Form.{Form, Info, nought, with_next, with_info}
 use Rattle.definition.specs.Read.{emit_step}
 use Rattle.meaning.proofs.Maps.{put_at, put_other, some_inj, some_none}

@@ -1,9 +1,9 @@
 -- A caller's parameter and a caller's argument keep the invariant: the block has no builder's parameters yet, the branch is declared nowhere. Assumes nothing.
-use Prim.Native.Nat.{ℕ, suc, ◌<◌, ◌≤◌}
+use Prim.Native.Nat.{ℕ, suc, ◌<◌}
 use mathlib.Core.Path.{◌≡◌, refl, sym, ap, ◌∙◌}
 use mathlib.Core.Logic.{⊎_map, ◌≢◌, ◌⊎◌, inl, inr}
 use mathlib.Core.Bool.{false}
-use mathlib.Core.List.{List, [], ◌∷◌, ◌++◌, append-nil, append_assoc}
+use mathlib.Core.List.{List, [], ◌∷◌, ◌++◌, append-nil}
 use lib.ListN.{length, get_or, length-append, get_or-append}
 use native.Mathlib.Omega.{arith}
 use native.Mathlib.Nat.{le_trans}
@@ -16,7 +16,7 @@ use Rattle.meaning.proofs.Maps.{same?, put_same, put_other, put_at, put₂_at, p
 use Rattle.meaning.proofs.Facts.{Edge, same, kept}
 use Rattle.meaning.proofs.Alias.{follow_more}
 use Rattle.meaning.proofs.Lists.{nodup_snoc, in_cases, in_one, in_left, in_right, put_in, snds, getD_last}
-use Rattle.meaning.proofs.Inv.{Grow, Inv, Work, Frame, frame, Callers, Owned, Passed, cut, pending, pending_par, kept_root, edge_grow, nought_grow}
+use Rattle.meaning.proofs.Inv.{Grow, Inv, Work, Frame, frame, Callers, Owned, cut, pending, pending_par, kept_root, edge_grow, nought_grow}
 use Rattle.meaning.proofs.Inv.{param_grow}
 use Rattle.meaning.proofs.Inv.{aliased_more, Gave, gave_more}
 

@@ -2,7 +2,7 @@
 -- and a variable is marked before anything stands for it. Assumes nothing.
 use Prim.Native.Nat.{ℕ, zero, suc, ◌<◌, ◌≤◌}
 use mathlib.Core.Path.{◌≡◌, refl, sym, ap, ◌∙◌, subst}
-use mathlib.Core.Logic.{◌≢◌, ◌⊎◌, inl, inr}
+use mathlib.Core.Logic.{◌⊎◌, inl, inr}
 use mathlib.Core.Bool.{Bool, true, false, cond, not, ◌&&◌, ◌||◌}
 use mathlib.Core.Option.{Option, none, some}
 use mathlib.Core.List.{List, [], ◌∷◌, ◌++◌, append_assoc, append-nil}
@@ -12,7 +12,7 @@ use native.Mathlib.Omega.{arith}
 use Rattle.entity.specs.Types.{type_count}
 use Rattle.entity.specs.Limits.{limits}
 use Rattle.definition.specs.Base.{put, is_some, ◌∷ʳ◌, has, any, up_from}
-use Rattle.definition.specs.Form.{Graph, Form, Info, made, nought, caller, def, with_blocks}
+use Rattle.definition.specs.Form.{Graph, Form, Info, made, caller, def, with_blocks}
 use Rattle.definition.specs.Read.{type_of, place_block, depth, set_pending, settle_pending}
 use Rattle.definition.specs.Session.{Call, Done, State, Reply, no, ok, refuse◌when◌else◌, declared_anywhere, no_block, no_var, no_value, no_branch, define}
 use Rattle.definition.specs.Session.{define_answer, mark_sealed, seal_each, answered, mark_var, reply, tick, after, empty, session}

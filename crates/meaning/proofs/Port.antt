@@ -6,7 +6,6 @@ use mathlib.Core.Bool.{true, false}
 use mathlib.Core.List.{List, [], ◌∷◌, ◌++◌, append-nil}
 use lib.ListN.{length, get_or, length-append}
 use native.Mathlib.Omega.{arith}
-use native.Mathlib.Nat.{le_trans}
 use Rattle.entity.specs.Limits.{value_room, limits, param_room, zero_room}
 use Rattle.definition.specs.Base.{put}
 use Rattle.definition.specs.Form.{Graph, Form}

@@ -23,7 +23,7 @@ use Rattle.meaning.specs.Stored.{Nodup}
 use Rattle.meaning.proofs.Causing.{Caused, new_caused, entered_caused, wider_caused, aliased_caused, emitted_caused}
 use Rattle.meaning.proofs.Emit.{zero_info, Stepped, emit_is, emit_stepped}
 use Rattle.meaning.proofs.Growing.{grown}
-use Rattle.meaning.proofs.Maps.{bind_other, same?, put_same, put_other, put_at, put₂_at, put₂_other, here?, false_true, put₂_is, bool?, ltb_yes, ltb_no}
+use Rattle.meaning.proofs.Maps.{bind_other, same?, put_other, put_at, put₂_at, put₂_other, here?, false_true, put₂_is, bool?, ltb_yes, ltb_no}
 use Rattle.meaning.proofs.Lists.{nodup_snoc, in_cases, without_in, has_in, in_one, map_in}
 use Rattle.meaning.proofs.Inv.{Grow, Param, nought_param, caller_param, Work}
 

@@ -1,7 +1,7 @@
 -- Before and after each use and each seal the form is at rest: each is a run of the machine or several, and every turn keeps what a run starts with. Assumes
 -- nothing.
 pub use Rattle.meaning.proofs.Mid.{Rest}
-use Prim.Native.Nat.{ℕ, zero, suc, ◌+◌, ◌<◌, ◌≤◌}
+use Prim.Native.Nat.{ℕ, zero, suc, ◌+◌, ◌<◌}
 use mathlib.Core.Path.{◌≡◌, refl, sym, ◌∙◌, subst}
 use mathlib.Core.Logic.{inl, inr}
 use mathlib.Core.Bool.{Bool, true, false}

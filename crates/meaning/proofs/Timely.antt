@@ -11,12 +11,12 @@ use lib.ListN.{length, get_or}
 use native.Mathlib.Omega.{arith}
 use Rattle.entity.specs.Types.{type_count}
 use Rattle.entity.specs.Limits.{limits}
-use Rattle.definition.specs.Base.{put, has, any, is_some, up_from}
+use Rattle.definition.specs.Base.{has, any, is_some, up_from}
 use Rattle.definition.specs.Form.{Graph, Form, def}
 use Rattle.definition.specs.Read.{type_of}
 use Rattle.definition.specs.Session.{Call, Done, State, Reply, no, ok, refuse◌when◌else◌, declared_anywhere, no_block, no_var, no_value, no_branch}
-use Rattle.definition.specs.Session.{declare_block, declare_var, make_value, define, use_var, new_branch, new_dest, add_pred, drop_pred, seal, seal_form}
-use Rattle.definition.specs.Session.{mark_sealed, seal_each, seal_all, define_answer, answered, reply, after, step, run, empty, session}
+use Rattle.definition.specs.Session.{define, add_pred, seal_form}
+use Rattle.definition.specs.Session.{mark_sealed, seal_each, define_answer, answered, reply, after, step, run, empty, session}
 use Rattle.meaning.specs.Path.{In, OnTime, declares, defines}
 use Rattle.meaning.proofs.Maps.{same?, put_at, put_other, eqb_eq, eqb_diff, false_true, bool?, and_both}
 use Rattle.meaning.proofs.Lists.{in_cases, in_one}

@@ -1,6 +1,6 @@
 -- `is_defined` meets its contract: what the blocks from here on say is what all say; at the end none is left.
 -- Assumes nothing.
-use Rattle.std.proofs.Common.{arith, le_trans, ℕ, ◌-◌, ◌<◌, sym, ap, ◌∙◌, List}
+use Rattle.std.proofs.Common.{arith, le_trans, ℕ, ◌<◌, sym, ap, ◌∙◌, List}
 use Rattle.entity.specs.Options.{value_of}
 use Rattle.definition.specs.Form.{Form}
 use Rattle.form.specs.Can.{HasDef, HasDefs}
@@ -21,8 +21,7 @@ returns-in-Some c =
     ∙ c.loop-b.invariant.1 s p
 
 pub loop-b-preserved : goal.loop-b-preserved
-loop-b-preserved c =
-    (
+loop-b-preserved c = (
   omega arith,
   λ s p.
       let lt = c.loop-b-test.true in

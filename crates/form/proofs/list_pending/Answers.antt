@@ -1,6 +1,6 @@
 -- `list_pending` meets its contract: behind the loop, each entry of the row stands in the list at its place.
 -- Assumes nothing.
-use Rattle.std.proofs.Common.{arith, ◌-◌, refl, length-set}
+use Rattle.std.proofs.Common.{arith, refl, length-set}
 use Rattle.layout.proofs.Copies.{copied_none, copied_more}
 use Rattle.form.proofs.Variables.{pending_listed}
 use Rattle.form.proofs.list_pending.Goals as goal

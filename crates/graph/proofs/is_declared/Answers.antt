@@ -1,6 +1,6 @@
 -- `is_declared` meets its contract: what the destinations from here on say is what all blocks say; at the end none is left.
 -- Assumes nothing.
-use Rattle.std.proofs.Common.{arith, ◌-◌, sym, ◌∙◌}
+use Rattle.std.proofs.Common.{arith, sym, ◌∙◌}
 use Rattle.graph.proofs.Declared.{all_named, found_here, not_here, none_left}
 use Rattle.graph.proofs.is_declared.Goals as goal
 
@@ -14,8 +14,7 @@ returns-then-is_predecessor c =
     ∙ c.loop-i.invariant.1 g s
 
 pub loop-i-preserved : goal.loop-i-preserved
-loop-i-preserved c =
-    (
+loop-i-preserved c = (
   omega arith,
   λ g s.
       not_here g s _ _ (omega (arith, c.dest_count-n.ensures.value g s)) _ (c.dest-b.ensures.result_value g s) (sym (c.is_predecessor.ensures g s) ∙ c.if-is_predecessor.false)

@@ -18,8 +18,7 @@ push_call-d-requires-in-loop-i-clause-some c =
     (_, _, schedule_room c.loop-i-test.true c.loop-i.invariant.3 (begin_schedule p.3 c.push_call-d.ensures.0 first))
 
 pub loop-i-preserved : goal.loop-i-preserved
-loop-i-preserved c =
-    (
+loop-i-preserved c = (
   omega arith,
   ap (λ (d : Counts). d.values) c.push_call-d-in-loop-i.ensures.0 ∙ c.loop-i.invariant.1,
   ap (λ (d : Counts). d.call) c.push_call-d-in-loop-i.ensures.0 ∙ c.loop-i.invariant.2,
@@ -27,8 +26,7 @@ loop-i-preserved c =
 )
 
 pub returns : goal.returns
-returns c =
-    (
+returns c = (
   c.loop-i.invariant.1 ∙ ap (λ (d : Counts). d.values) c.push_call-d.ensures.0,
   c.loop-i.invariant.2 ∙ ap (λ (d : Counts). d.call) c.push_call-d.ensures.0,
   λ g ts rs h. schedule_end c.loop-i-test.false c.loop-i.invariant.3 g _ rs (begin_schedule h c.push_call-d.ensures.0 (c.push_call-d.ensures.1 ts rs (begin_call h))),

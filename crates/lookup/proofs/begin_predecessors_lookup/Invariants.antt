@@ -8,7 +8,7 @@ use Rattle.lookup.proofs.begin_predecessors_lookup.Given as goal
 abbrev pub invariant-loop-i : goal.invariant-loop-i
 invariant-loop-i l =
     (l.i ≤ pred_room limits) × (l.d.values ≡ l.initial.d.values) × (l.d.call ≡ l.initial.d.call)
-        × Scheduling l.graph l.dest.0 l.initial.work l.initial.d l.work l.d l.i
+    × Scheduling l.graph l.dest.0 l.initial.work l.initial.d l.work l.d l.i
 
 abbrev pub decreases-loop-i : goal.decreases-loop-i
 decreases-loop-i l = l.i

@@ -1,7 +1,6 @@
 -- `copy_back` meets its contract: the cells show the form with the blocks behind marked, and the way to `from` gets shorter. A block on the way has a
 -- single predecessor, so the loop is never left in the middle.
 -- Assumes nothing.
-use Rattle.std.proofs.Common.{refl, ◌∙◌}
 use Rattle.lookup.proofs.Copies.{copy_start, copy_low, copy_has, copy_some, copy_falls, copy_next, copy_end}
 use Rattle.lookup.proofs.copy_back.Goals as goal
 

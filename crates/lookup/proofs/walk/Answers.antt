@@ -23,8 +23,7 @@ pub loop-pred-smaller : goal.loop-pred-smaller
 loop-pred-smaller c = unmarked_falls c.loop-pred.visited _ _ c.loop-pred.invariant.0 (omega arith) c.if-visited-i.false
 
 pub loop-pred-preserved : goal.loop-pred-preserved
-loop-pred-preserved c =
-    (
+loop-pred-preserved c = (
   (step_has c.loop-pred.invariant.0 c.loop-pred.invariant.2 c.in-Some.is c.single_predecessor-single.ensures c.requires.2).known,
   simp length-set c.loop-pred.invariant.1,
   walk_turn c.loop-pred.invariant.0 c.loop-pred.invariant.2 c.in-Some.is c.single_predecessor-single.ensures c.if-visited-i.false c.in_default-there.is c.definition-there.ensures (omega arith),

@@ -1,6 +1,5 @@
 -- `run` meets its contract: after i turns the cells show the session of the first i calls, and at last the stacks' cells are cleared.
 -- Assumes nothing.
-use Rattle.std.proofs.Common.{◌-◌}
 use Rattle.turns.proofs.Runs.{running_start, running_next, running_end}
 use Rattle.turns.proofs.run.Goals as goal
 
