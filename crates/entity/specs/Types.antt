@@ -1,6 +1,7 @@
 -- The types, a line each: what a lane holds and how many there are. Width, steps of a zero and bits of the unset value follow from that by one rule each.
 -- Assumes nothing.
-use Rattle.std.specs.Prelude.{ℕ, zero, suc, ◌+◌, ◌-◌, ◌*◌, ◌/◌, ◌%◌, ◌^◌, ◌≡◌, cond, List, [], ◌∷◌, ltb, leb, length, get_or}
+use Rattle.std.specs.Prelude.{ℕ, zero, suc, ◌+◌, ◌-◌, ◌*◌, ◌/◌, ◌%◌, ◌^◌}
+use Rattle.std.specs.Prelude.{◌≡◌, cond, List, [], ◌∷◌, ltb, leb, length, get_or}
 use Rattle.std.proofs.Math.Option.{Option, none, some}
 use Rattle.entity.specs.declared.Found.{Found}
 use Rattle.entity.specs.declared.Shape.{Shape}
@@ -109,8 +110,8 @@ lane_bits (float e f) = 1 + e + f
 abbrev pub width_of : ℕ → ℕ
 width_of n = lanes_of n * lane_bits (held_of n) / 8
 
--- The unset value: what a variable of the type holds where it has received nothing. An integer's bits are all clear. A float's are a quiet NaN, so that it shows:
--- the sign is clear, the exponent all ones, and of the fraction only the top bit is set.
+-- The unset value: what a variable of the type holds where it has received nothing. An integer's bits are all clear. A float's are a quiet NaN, so that it
+-- shows: the sign is clear, the exponent all ones, and of the fraction only the top bit is set.
 abbrev pub unset_lane : Lane → ℕ
 unset_lane (integer w) = 0
 unset_lane (float e f) = (2 ^ e - 1) * 2 ^ f + 2 ^ (f - 1)

@@ -1,6 +1,7 @@
 -- Which table holds what, in the three lent lists: graph, form and work. Sizes follow from the limits.
 -- Assumes nothing.
-use Rattle.std.specs.Prelude.{ℕ, suc, ◌+◌, ◌*◌, ◌/◌, ◌%◌, ◌≤◌, ◌<◌, ◌≡◌, refl, Bool, List, [], ◌∷◌, map, reverse, length, get_or}
+use Rattle.std.specs.Prelude.{ℕ, suc, ◌+◌, ◌*◌, ◌/◌, ◌%◌, ◌≤◌, ◌<◌}
+use Rattle.std.specs.Prelude.{◌≡◌, refl, Bool, List, [], ◌∷◌, map, reverse, length, get_or}
 use Rattle.entity.specs.Limits.{limits, row_cells, zero_room, value_room, wait_room, param_room, pred_room, call_room, result_room}
 use Rattle.entity.specs.Limits.{graph_need, form_need, work_need}
 use Rattle.entity.specs.Described.{packed}

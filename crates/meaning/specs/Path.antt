@@ -1,6 +1,7 @@
 -- What a finished session means on a path, and demand 3.
 -- Assumes nothing.
-use Rattle.std.specs.Prelude.{ℕ, ◌<◌, ◌≡◌, ◌⊎◌, Bool, true, false, cond, ◌&&◌, ◌||◌, List, [], ◌∷◌, ◌++◌, eqb, length, get_or, take}
+use Rattle.std.specs.Prelude.{ℕ, ◌<◌}
+use Rattle.std.specs.Prelude.{◌≡◌, ◌⊎◌, Bool, true, false, cond, ◌&&◌, ◌||◌, List, [], ◌∷◌, ◌++◌, eqb, length, get_or, take}
 use Rattle.definition.specs.Base.{put}
 use Rattle.definition.specs.Form.{Form, Sort, made, param, nought, caller}
 use Rattle.definition.specs.Read.{resolve, type_of}

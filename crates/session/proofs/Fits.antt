@@ -13,7 +13,8 @@ use Rattle.definition.specs.Base.{◌=?◌}
 use Rattle.definition.specs.Session.{session}
 use Rattle.definition.specs.Whole.{calls, needs, short, unfit, whole_answer}
 use Rattle.layout.specs.Outcome.{Lent, SameLists, lengths, shown, past, followed_by}
-use Rattle.layout.proofs.Outcome.{Fits, by_tests}
+use Rattle.layout.proofs.Outcome.{Fits, fits, by_tests}
+use Rattle.reply.proofs.Answered.{tested}
 use Rattle.turns.specs.Turns.{Lined, Exact}
 use Rattle.session.specs.Ends.{Ended}
 
@@ -72,3 +73,8 @@ module _ {ks xs ys zs : List ℕ} {t : Lent} (h : Fits ks xs ys zs t) where
     form_exact = length-take-le (form_need limits) t.form h.form_fit;
     work_exact = length-take-le (work_need limits) t.work h.work_fit;
   }
+
+-- where both tests of the code say no, the tables that are lent on are just as long as the run asks
+pub run_exact : (ks xs ys zs : List ℕ) (t : Lent) {u v : Bool} → u ≡ unfit ks xs ys zs → u ≡ false → v ≡ short (needs (length ks)) (lengths t) → v ≡ false
+    → Exact (take (graph_need limits) t.graph) (take (form_need limits) t.form) (take (work_need limits) t.work)
+run_exact ks xs ys zs t p p' q q' = exact (fits ks xs ys zs t (tested p p') (tested q q'))

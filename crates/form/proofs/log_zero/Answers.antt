@@ -3,7 +3,6 @@
 use Rattle.form.proofs.Logs.{log_room, log_room_2, zero_logged}
 use Rattle.form.proofs.log_zero.Goals as goal
 
--- CHECK which of push-requires push-requires-2
 pub push-requires : goal.push-requires
 push-requires c = log_room _ c.requires.0 c.requires.1
 

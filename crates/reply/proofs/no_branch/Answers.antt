@@ -4,6 +4,5 @@ use Rattle.std.proofs.Common.{refl}
 use Rattle.reply.proofs.Answered.{tested}
 use Rattle.reply.proofs.no_branch.Goals as goal
 
--- CHECK which return
 pub returns-then-no_block-clause-value : goal.returns-then-no_block-clause-value
 returns-then-no_block-clause-value c = λ g s h. rw (tested (c.no_block.ensures.value g s h) c.if-no_block.true) refl
