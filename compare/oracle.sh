@@ -23,7 +23,7 @@ usage() {
 
 need_library() {
     command -v cargo >/dev/null || { echo "cargo is not at hand, and this command is built with it" >&2; exit 2; }
-    [ -f "${SANGVIREB_LIB:-$root/target/staticlib}/libexports.a" ] || (cd "$root" && rt staticlib exports)
+    [ -f "${SANGVIREB_LIB:-$root/crates/exports/out}/libexports.a" ] || (cd "$root/crates/exports" && rt lib >&2)
 }
 
 # The oracle is the crate's own ssa.rs over the real cranelift, with a driver in front of it. It is not in this repository.
@@ -33,7 +33,7 @@ need_oracle() {
 The oracle is not at hand, and this command compares with it. It is a folder of its own with a script setup.sh, which builds the crate's ssa.rs
 (cranelift-frontend 0.137.1) over cranelift-codegen 0.123.13 and its driver; it is handed out beside this repository and not with it.
   looked for: $oracle/setup.sh (--oracle DIR names another place), $built (--built DIR)
-  without it: the gate replays the oracle's stored answers (rt check sangvireb), and compare/run walk, draw, hostile and memcheck need the library alone
+  without it: the gate replays the oracle's stored answers (rt ci), and compare/run walk, draw, hostile and memcheck need the library alone
 TEXT
         exit 2
     fi

@@ -1,4 +1,4 @@
-/* The public calls of Sangvireb, for C and C++. Link target/staticlib/libexports.a, which `rt staticlib exports` writes; README.md has the command.
+/* The public calls of Sangvireb, for C and C++. Link crates/exports/out/libexports.a, which `rt lib` writes in crates/exports; README.md has the command.
  * What each call answers and leaves is proved in crates/session, crates/alias, crates/reader, crates/draw and crates/exports; docs/RULES.md says it in words.
  *
  * A list is a pointer and a length. What a call is lent must be there for the call: as many cells as its length says, and no cell in two lists,

@@ -1,9 +1,9 @@
-//! Finds the static library that `rt staticlib exports` writes, and links it.
+//! Finds the static library that `rt lib` writes in crates/exports, and links it.
 use std::path::PathBuf;
 use std::{env, process};
 
 const FOLDER: &str = "SANGVIREB_LIB";
-const BUILT: &str = "../../target/staticlib";
+const BUILT: &str = "../../crates/exports/out";
 const NAME: &str = "exports";
 
 fn main() {
@@ -14,7 +14,7 @@ fn main() {
     println!("cargo:rerun-if-changed={}", library.display());
     if !library.is_file() {
         eprintln!("{} is not there.", library.display());
-        eprintln!("`rt staticlib exports`, run at the repository's root, makes it in target/staticlib.");
+        eprintln!("`rt lib`, run in crates/exports, makes it in crates/exports/out.");
         eprintln!("If you keep it elsewhere, let {FOLDER} name its folder.");
         process::exit(1);
     }

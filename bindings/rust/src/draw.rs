@@ -42,7 +42,7 @@ impl Session {
                     return String::from_utf8(buffer).expect("the text is ASCII");
                 }
                 (raw::NO_ROOM, _) => buffer.resize(2 * buffer.len(), 0),
-                // Tables that a session left are long enough and can be drawn (`session-drawable` in crates/draw).
+                // Tables that a session left are long enough and can be drawn (`session_drawable` in crates/draw).
                 (code, _) => unreachable!("proved: a session's tables are drawn, not refused with {code}"),
             }
         }

@@ -50,14 +50,14 @@ impl<'a> Destination<'a> {
 }
 
 /// A row of the tables that the library itself does not read out: destinations, predecessors, pending variables, blocks placed, the zero log. It is its count
-/// and then its entries. No count exceeds its row's room (`rooms-suffice`).
+/// and then its entries. No count exceeds its row's room (`rooms_suffice`).
 fn row<T>(cells: &[u32], start: usize, read: fn(u32) -> T) -> Row<'_, T> {
     let count = cells[start] as usize;
     cells[start + 1..][..count].iter().copied().map(read)
 }
 
 fn stored_type(number: u32) -> Type {
-    Type::from_number(number).expect("proved: a stored type is one of Type::ALL (numbers-named)")
+    Type::from_number(number).expect("proved: a stored type is one of Type::ALL (numbers_named)")
 }
 
 impl Session {
@@ -160,7 +160,7 @@ impl Session {
     /// builder's.
     pub fn caller_params(&self, block: Block) -> Result<Row<'_, Value>, Refused> {
         let count = self.form[raw::OWNS + self.block(block)?] as usize;
-        // The caller's parameters stand first (`callers-first`), so the row has them.
+        // The caller's parameters stand first (`callers_first`), so the row has them.
         Ok(self.cells(Asked::Params(block))[..count].iter().copied().map(Value))
     }
 
@@ -234,7 +234,7 @@ impl Session {
     pub(crate) fn end_of(&self, value: Value) -> Value {
         let targets = &self.form[raw::TARGET..][..self.value_count() as usize];
         let (code, end) = raw::resolve(targets, value.0);
-        assert_eq!(code, 0, "proved: every chain of a session ends (chains-resolve), and {value} is stored in it");
+        assert_eq!(code, 0, "proved: every chain of a session ends (chains_resolve), and {value} is stored in it");
         Value(end)
     }
 

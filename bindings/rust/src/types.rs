@@ -172,7 +172,7 @@ impl Type {
 }
 
 fn told(number: u32) -> Type {
-    Type::from_number(number).expect("proved: a lane and a step are named by their types' numbers (lane-of, step-of)")
+    Type::from_number(number).expect("proved: a lane and a step are named by their types' numbers (lane_of, step_of)")
 }
 
 numbered!(

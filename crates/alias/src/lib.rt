@@ -1,9 +1,13 @@
 // Resolving an alias over a lent list of targets.
-ghost use Prim.Native.Nat.{ℕ};
-ghost use Rattle·definition.specs.Resolve.{Ends, Resolved};
+#![tactic(auto)]
+
+ghost use Rattle.std.specs.Prelude.{ℕ};
+ghost use Rattle.definition.specs.Resolve.{Ends, Resolved};
+
 use entity::Value;
 
 // Code 0 with the number found; 6 for a number past the list and 14 for a walk without an end, each with number 0.
+#[derive(Clone, Copy)]
 pub struct Answer {
     pub code: u32,
     pub number: u32,
@@ -12,7 +16,7 @@ pub struct Answer {
 // Follows targets from `value` until a value that is its own target. It takes a turn for each link, however long the list is, and one to see the end.
 // A walk that ends never comes to a value twice, so one that has taken as many turns as the list has cells doesn't end: what is left of them falls.
 pub fn resolve(targets: &[u32], value: Value) -> Answer
-    ensures { λ r. ⌜ Resolved (now (targets .entry)) (value .0) (r .code) (r .number) ⌝ }
+    ensures { Resolved targets.now value.0 result.code result.number }
 {
     let mut at = value.0;
     if targets.len() <= at as usize {
@@ -42,8 +46,8 @@ pub fn resolve(targets: &[u32], value: Value) -> Answer
 // The end of a walk that is known to end: a load and a test for each link, and one of each to see the end.
 // The walk goes from place to place, not from number to number: each load then waits for the one before it and for no widening between.
 pub fn follow(targets: &[u32], value: Value) -> Value
-    requires { ⌜ ((y : ℕ) × Ends (now targets) (value .0) y) ⌝ }
-    ensures { λ r. ⌜ Ends (now (targets .entry)) (value .0) (r .0) ⌝ }
+    requires { (y : ℕ) × Ends targets.now value.0 y }
+    ensures { Ends targets.now value.0 result.0 }
 {
     let mut at = value.0 as usize;
     loop {

@@ -1,17 +1,16 @@
 -- What one call over the lent cells asks and promises.
 -- Assumes nothing.
-use Prim.Native.Nat.{ℕ}
-use mathlib.Core.List.{List, []}
-use Rattle·definition.specs.Form.{Graph, Form}
-use Rattle·definition.specs.Session.{State, Reply as Defined}
-use Rattle·layout.specs.declared.Counts.{Counts}
-use Rattle·layout.specs.Layout.{Piles}
-use Rattle·reply.specs.declared.Reply.{Reply}
-use Rattle·reply.specs.Replies.{Showing, Replies}
+use Rattle.std.specs.Prelude.{ℕ, List, []}
+use Rattle.definition.specs.Form.{Graph, Form}
+use Rattle.definition.specs.Session.{State, Reply as Defined}
+use Rattle.layout.specs.declared.Counts.{Counts}
+use Rattle.layout.specs.Layout.{Piles}
+use Rattle.reply.specs.declared.Reply.{Reply}
+use Rattle.reply.specs.Replies.{Showing, Replies}
 
 -- there is a state such that
-abbrev pub State-with : (State → Type 0) → Type 0
-State-with P = (t : State) × P t
+abbrev pub StateWith : (State → Type 0) → Type 0
+StateWith P = (t : State) × P t
 
 -- The cells and the counts show a state between two calls; both stacks are empty, whatever their cells hold.
 pub record Between (gl fl wl : List ℕ) (c : Counts) (t : State) : Type 0 where
@@ -25,4 +24,4 @@ pub record Replied (gl fl wl : List ℕ) (r : Reply) (g : Graph) (s : Form) (d :
 
 -- for each state that the cells show, r answers the reply f
 abbrev pub Answers : List ℕ → List ℕ → List ℕ → List ℕ → List ℕ → List ℕ → Counts → Reply → (Graph → Form → Defined) → Type 0
-Answers gl fl wl gl′ fl′ wl′ c r f = (t : State) → Between gl fl wl c t → Replied gl′ fl′ wl′ r (t .graph) (t .form) (f (t .graph) (t .form))
+Answers gl fl wl gl' fl' wl' c r f = (t : State) → Between gl fl wl c t → Replied gl' fl' wl' r t.graph t.form (f t.graph t.form)

@@ -1,11 +1,12 @@
 // One call over lent cells: each kind has its function, and those that read a variable or seal a block stand here.
-ghost use mathlib.Core.Path.{_≡_};
-ghost use Rattle·entity.specs.Options.{value-of};
-ghost use Rattle·definition.specs.Session.{State, use-var, seal, seal-all, answered, reply};
-ghost use Rattle·calls·specs.specs.Calls.{State-with, Between, Answers, Replied};
-use entity::Block;
-use entity::OptionValue;
-use entity::Variable;
+#![tactic(auto)]
+
+ghost use Rattle.std.specs.Prelude.{◌≡◌};
+ghost use Rattle.entity.specs.Options.{value_of};
+ghost use Rattle.definition.specs.Session.{State, use_var, seal, seal_all, answered, reply};
+ghost use Rattle.calls.specs.Calls.{StateWith, Between, Answers, Replied};
+
+use entity::{Block, OptionValue, Variable};
 use layout::Counts;
 use reply::Reply;
 
@@ -14,9 +15,9 @@ const UNKNOWN: u32 = 3;
 
 // Kind 6.
 fn use_var(graph: &[u32], form: &mut [u32], work: &mut [u32], c: Counts, x: u32, y: u32) -> Reply
-    requires { ⌜ State-with (Between (now graph) (now form) (now work) c) ⌝ }
-    ensures { λ r. ⌜ Answers (now (graph .entry)) (now (form .entry)) (now (work .entry)) (now (graph .entry)) (now (form .exit)) (now (work .exit)) c r
-        (λ g s. use-var g s x y) ⌝ }
+    requires { StateWith (Between graph.now form.old work.old c) }
+    ensures { Answers graph.now form.old work.old graph.now form.new work.new c result
+        (λ g s. use_var g s x y) }
 {
     if reply::no_var(graph, x) {
         return reply::refuse(reply::ABSENT, c);
@@ -32,9 +33,9 @@ fn use_var(graph: &[u32], form: &mut [u32], work: &mut [u32], c: Counts, x: u32,
 
 // Kind 11. The answer counts the zeros that the log has more.
 fn seal_block(graph: &mut [u32], form: &mut [u32], work: &mut [u32], c: Counts, x: u32) -> Reply
-    requires { ⌜ State-with (Between (now graph) (now form) (now work) c) ⌝ }
-    ensures { λ r. ⌜ Answers (now (graph .entry)) (now (form .entry)) (now (work .entry)) (now (graph .exit)) (now (form .exit)) (now (work .exit)) c r
-        (λ g s. seal g s x) ⌝ }
+    requires { StateWith (Between graph.old form.old work.old c) }
+    ensures { Answers graph.old form.old work.old graph.new form.new work.new c result
+        (λ g s. seal g s x) }
 {
     if reply::no_block(graph, x) {
         return reply::refuse(reply::ABSENT, c);
@@ -50,9 +51,9 @@ fn seal_block(graph: &mut [u32], form: &mut [u32], work: &mut [u32], c: Counts, 
 
 // Kind 12.
 fn seal_all_blocks(graph: &mut [u32], form: &mut [u32], work: &mut [u32], c: Counts) -> Reply
-    requires { ⌜ State-with (Between (now graph) (now form) (now work) c) ⌝ }
-    ensures { λ r. ⌜ Answers (now (graph .entry)) (now (form .entry)) (now (work .entry)) (now (graph .exit)) (now (form .exit)) (now (work .exit)) c r
-        seal-all ⌝ }
+    requires { StateWith (Between graph.old form.old work.old c) }
+    ensures { Answers graph.old form.old work.old graph.new form.new work.new c result
+        seal_all }
 {
     let before = form::zero_count(form);
     let d = ssa::seal_all_blocks(graph, form, work, c);
@@ -72,10 +73,10 @@ pub fn one_call(
     z: u32,
     w: OptionValue,
 ) -> Reply
-    requires { ⌜ State-with (Between (now graph) (now form) (now work) c) ⌝ }
-    ensures { λ r. ⌜ ((t : State) → (kind ≡ 5 → value-of w ≡ answered (t .done) y)
-        → Between (now (graph .entry)) (now (form .entry)) (now (work .entry)) c t
-        → Replied (now (graph .exit)) (now (form .exit)) (now (work .exit)) r (t .graph) (t .form) (reply (t .graph) (t .form) (t .done) x y z kind)) ⌝ }
+    requires { StateWith (Between graph.old form.old work.old c) }
+    ensures { (t : State) → (kind ≡ 5 → value_of w ≡ answered t.done y)
+        → Between graph.old form.old work.old c t
+        → Replied graph.new form.new work.new result t.graph t.form (reply t.graph t.form t.done x y z kind) }
 {
     match kind {
         1 => return declare::declare_block(graph, form, c, x),

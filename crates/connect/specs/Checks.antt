@@ -1,10 +1,9 @@
 -- The checks that kinds 9 and 10 have in common, and what a check says of a call.
 -- Assumes nothing.
-use Prim.Native.Nat.{ℕ}
-use mathlib.Core.Bool.{_||_}
-use Rattle·definition.specs.Form.{Graph, Form}
-use Rattle·definition.specs.Session.{Reply, no, refuse_when_else_, no-block, no-branch}
-use Rattle·connect·specs.specs.declared.Check.{Check}
+use Rattle.std.specs.Prelude.{ℕ, ◌||◌}
+use Rattle.definition.specs.Form.{Graph, Form}
+use Rattle.definition.specs.Session.{Reply, no, refuse◌when◌else◌, no_block, no_branch}
+use Rattle.connect.specs.declared.Check.{Check}
 
 -- the reply is d where the check was passed; else the code's refusal
 abbrev pub checked : Check → Reply → Reply
@@ -12,8 +11,8 @@ checked Check.Passed d = d
 checked (Check.Refused code) d = no code
 
 -- block b and branch p are there, and b is not sealed: then d
-abbrev pub pred-checked : Graph → Form → ℕ → ℕ → Reply → Reply
-pred-checked g s b p d =
-    refuse 6 when (no-block g s b || no-branch g s p) else
-    refuse 8 when g .sealed b else
+abbrev pub pred_checked : Graph → Form → ℕ → ℕ → Reply → Reply
+pred_checked g s b p d =
+    refuse 6 when (no_block g s b || no_branch g s p) else
+    refuse 8 when g.sealed b else
     d

@@ -1,19 +1,20 @@
 // The kinds of call that connect blocks, or ask about that: destinations, predecessors. The checks of docs/RULES.md in its order, then the change.
-ghost use mathlib.Core.Path.{_≡_};
-ghost use mathlib.Core.List.{List};
-ghost use Prim.Native.Nat.{ℕ, _<_};
-ghost use Rattle·entity.specs.Limits.{limits};
-ghost use Rattle·definition.specs.Form.{Graph, Form};
-ghost use Rattle·definition.specs.Session.{Reply as Defined, new-dest, add-pred, drop-pred, any-preds, is-sealed};
-ghost use Rattle·graph.specs.Seen.{Graph-with, Seen};
-ghost use Rattle·reply.specs.Replies.{Some-state, Answers};
-ghost use Rattle·connect·specs.specs.Checks.{checked, pred-checked};
-use entity::Block;
-use entity::Branch;
+#![tactic(auto)]
+
+ghost use Rattle.std.specs.Prelude.{◌≡◌, List, ℕ, ◌<◌};
+ghost use Rattle.entity.specs.Limits.{limits};
+ghost use Rattle.definition.specs.Form.{Graph, Form};
+ghost use Rattle.definition.specs.Session.{Reply as Defined, new_dest, add_pred, drop_pred, any_preds, is_sealed};
+ghost use Rattle.graph.specs.Seen.{GraphWith, Seen};
+ghost use Rattle.reply.specs.Replies.{SomeState, Answers};
+ghost use Rattle.connect.specs.Checks.{checked, pred_checked};
+
+use entity::{Block, Branch};
 use layout::Counts;
 use reply::Reply;
 
 // What checks say of a call: it may go on, or it is refused with a code.
+#[derive(Clone, Copy)]
 pub enum Check {
     Passed,
     Refused(u32),
@@ -21,8 +22,8 @@ pub enum Check {
 
 // Kind 8. A branch that is declared somewhere keeps its destinations: its arguments stand at their places.
 pub fn new_dest(graph: &mut [u32], c: Counts, x: u32, y: u32) -> Reply
-    requires { ⌜ ((form : List ℕ) × Some-state (now graph) form c) ⌝ }
-    ensures { λ r. ⌜ ((form : List ℕ) → Answers (now (graph .entry)) form (now (graph .exit)) form c r (λ g s. new-dest g s x y)) ⌝ }
+    requires { (form : List ℕ) × SomeState graph.old form c }
+    ensures { (form : List ℕ) → Answers graph.old form graph.new form c result (λ g s. new_dest g s x y) }
 {
     if reply::no_branch(graph, x) {
         return reply::refuse(reply::ABSENT, c);
@@ -44,9 +45,9 @@ pub fn new_dest(graph: &mut [u32], c: Counts, x: u32, y: u32) -> Reply
 
 // What declaring a predecessor and removing it ask first: the block and the branch are there, and the block is not sealed.
 fn check_pred(graph: &[u32], x: u32, y: u32) -> Check
-    requires { ⌜ Graph-with (Seen (now graph)) ⌝ }
-    ensures { λ r. ⌜ (r ≡ Check.Passed → (x < limits .blocks) × (y < limits .blocks)) ⌝ }
-    ensures { λ r. ⌜ ((g : Graph) → (s : Form) → Seen (now (graph .entry)) g → (d : Defined) → checked r d ≡ pred-checked g s x y d) ⌝ }
+    requires { GraphWith (Seen graph.now) }
+    ensures x_lt_blocks { result ≡ Check.Passed → (x < limits.blocks) × (y < limits.blocks) }
+    ensures d_value { (g : Graph) → (s : Form) → Seen graph.now g → (d : Defined) → checked result d ≡ pred_checked g s x y d }
 {
     if reply::no_block(graph, x) {
         return Check::Refused(reply::ABSENT);
@@ -62,8 +63,8 @@ fn check_pred(graph: &[u32], x: u32, y: u32) -> Check
 
 // Kind 9. A branch that names a block several times is one predecessor of it, so it is declared there once.
 pub fn add_pred(graph: &mut [u32], c: Counts, x: u32, y: u32) -> Reply
-    requires { ⌜ ((form : List ℕ) × Some-state (now graph) form c) ⌝ }
-    ensures { λ r. ⌜ ((form : List ℕ) → Answers (now (graph .entry)) form (now (graph .exit)) form c r (λ g s. add-pred g s x y)) ⌝ }
+    requires { (form : List ℕ) × SomeState graph.old form c }
+    ensures { (form : List ℕ) → Answers graph.old form graph.new form c result (λ g s. add_pred g s x y) }
 {
     let check = check_pred(graph, x, y);
     if let Check::Refused(code) = check {
@@ -82,8 +83,8 @@ pub fn add_pred(graph: &mut [u32], c: Counts, x: u32, y: u32) -> Reply
 
 // Kind 10. The answer is the place that the last predecessor takes over.
 pub fn drop_pred(graph: &mut [u32], c: Counts, x: u32, y: u32) -> Reply
-    requires { ⌜ ((form : List ℕ) × Some-state (now graph) form c) ⌝ }
-    ensures { λ r. ⌜ ((form : List ℕ) → Answers (now (graph .entry)) form (now (graph .exit)) form c r (λ g s. drop-pred g s x y)) ⌝ }
+    requires { (form : List ℕ) × SomeState graph.old form c }
+    ensures { (form : List ℕ) → Answers graph.old form graph.new form c result (λ g s. drop_pred g s x y) }
 {
     let check = check_pred(graph, x, y);
     if let Check::Refused(code) = check {
@@ -98,8 +99,8 @@ pub fn drop_pred(graph: &mut [u32], c: Counts, x: u32, y: u32) -> Reply
 
 // Kind 13. An unknown block is refused, where the original says no.
 pub fn has_any_predecessors(graph: &[u32], c: Counts, x: u32) -> Reply
-    requires { ⌜ ((form : List ℕ) × Some-state (now graph) form c) ⌝ }
-    ensures { λ r. ⌜ ((form : List ℕ) → Answers (now (graph .entry)) form (now (graph .entry)) form c r (λ g s. any-preds g s x)) ⌝ }
+    requires { (form : List ℕ) × SomeState graph.now form c }
+    ensures { (form : List ℕ) → Answers graph.now form graph.now form c result (λ g s. any_preds g s x) }
 {
     if reply::no_block(graph, x) {
         return reply::refuse(reply::ABSENT, c);
@@ -112,8 +113,8 @@ pub fn has_any_predecessors(graph: &[u32], c: Counts, x: u32) -> Reply
 
 // Kind 14. An unknown block is refused, where the original says no.
 pub fn is_sealed(graph: &[u32], c: Counts, x: u32) -> Reply
-    requires { ⌜ ((form : List ℕ) × Some-state (now graph) form c) ⌝ }
-    ensures { λ r. ⌜ ((form : List ℕ) → Answers (now (graph .entry)) form (now (graph .entry)) form c r (λ g s. is-sealed g s x)) ⌝ }
+    requires { (form : List ℕ) × SomeState graph.now form c }
+    ensures { (form : List ℕ) → Answers graph.now form graph.now form c result (λ g s. is_sealed g s x) }
 {
     if reply::no_block(graph, x) {
         return reply::refuse(reply::ABSENT, c);

@@ -1,31 +1,25 @@
 // The kinds of call that bring something in: blocks, variables, values, definitions, branches, a caller's parameters and their arguments, a variable's mark.
 // The checks of docs/RULES.md in its order, then the change.
-ghost use mathlib.Core.Bool.{not, _||_};
-ghost use mathlib.Core.List.{List};
-ghost use mathlib.Core.Path.{_≡_};
-ghost use Prim.Native.Nat.{ℕ, _<_};
-ghost use lib.ListN.{length};
-ghost use Rattle·entity.specs.Limits.{limits};
-ghost use Rattle·entity.specs.Options.{value-of};
-ghost use Rattle·definition.specs.Base.{_=?_};
-ghost use Rattle·definition.specs.Form.{Graph, Form};
-ghost use Rattle·definition.specs.Session.{declare-block, declare-var, make-value, define, define-answer, new-branch, own-param, give-arg, mark-var};
-ghost use Rattle·graph.specs.Seen.{Graph-with, Seen};
-ghost use Rattle·form.specs.Can.{Ex, Has-pending};
-ghost use Rattle·reply.specs.Replies.{Some-state, Answers};
-use entity::Block;
-use entity::Branch;
-use entity::OptionValue;
-use entity::Type;
-use entity::Value;
-use entity::Variable;
+#![tactic(auto)]
+
+ghost use Rattle.std.specs.Prelude.{not, ◌||◌, List, ◌≡◌, ℕ, ◌<◌, length};
+ghost use Rattle.entity.specs.Limits.{limits};
+ghost use Rattle.entity.specs.Options.{value_of};
+ghost use Rattle.definition.specs.Base.{◌=?◌};
+ghost use Rattle.definition.specs.Form.{Graph, Form};
+ghost use Rattle.definition.specs.Session.{declare_block, declare_var, make_value, define, define_answer, new_branch, own_param, give_arg, mark_var};
+ghost use Rattle.graph.specs.Seen.{GraphWith, Seen};
+ghost use Rattle.form.specs.Can.{Ex, HasPending};
+ghost use Rattle.reply.specs.Replies.{SomeState, Answers};
+
+use entity::{Block, Branch, OptionValue, Type, Value, Variable};
 use layout::Counts;
 use reply::Reply;
 
 // Kind 1. Block 0 is the entry, so it is placed at once; a block that is there stays as it is.
 pub fn declare_block(graph: &mut [u32], form: &mut [u32], c: Counts, x: u32) -> Reply
-    requires { ⌜ Some-state (now graph) (now form) c ⌝ }
-    ensures { λ r. ⌜ Answers (now (graph .entry)) (now (form .entry)) (now (graph .exit)) (now (form .exit)) c r (λ g s. declare-block g s x) ⌝ }
+    requires { SomeState graph.old form.old c }
+    ensures { Answers graph.old form.old graph.new form.new c result (λ g s. declare_block g s x) }
 {
     if entity::BLOCKS <= x {
         return reply::refuse(reply::FULL, c);
@@ -47,8 +41,8 @@ pub fn declare_block(graph: &mut [u32], form: &mut [u32], c: Counts, x: u32) -> 
 
 // Kind 2. A variable that is there may be declared again with its own type.
 pub fn declare_var(graph: &mut [u32], c: Counts, x: u32, y: u32) -> Reply
-    requires { ⌜ ((form : List ℕ) × Some-state (now graph) form c) ⌝ }
-    ensures { λ r. ⌜ ((form : List ℕ) → Answers (now (graph .entry)) form (now (graph .exit)) form c r (λ g s. declare-var g s x y)) ⌝ }
+    requires { (form : List ℕ) × SomeState graph.old form c }
+    ensures { (form : List ℕ) → Answers graph.old form graph.new form c result (λ g s. declare_var g s x y) }
 {
     if entity::VARIABLES <= x {
         return reply::refuse(reply::FULL, c);
@@ -72,8 +66,8 @@ pub fn declare_var(graph: &mut [u32], c: Counts, x: u32, y: u32) -> Reply
 
 // Kind 3. A block's first value places it; after its branch a block takes no more.
 pub fn make_value(graph: &[u32], form: &mut [u32], c: Counts, x: u32, y: u32) -> Reply
-    requires { ⌜ Some-state (now graph) (now form) c ⌝ }
-    ensures { λ r. ⌜ Answers (now (graph .entry)) (now (form .entry)) (now (graph .entry)) (now (form .exit)) c r (λ g s. make-value g s x y) ⌝ }
+    requires { SomeState graph.now form.old c }
+    ensures { Answers graph.now form.old graph.now form.new c result (λ g s. make_value g s x y) }
 {
     if reply::no_block(graph, x) {
         return reply::refuse(reply::ABSENT, c);
@@ -95,8 +89,8 @@ pub fn make_value(graph: &[u32], form: &mut [u32], c: Counts, x: u32, y: u32) ->
 
 // Kind 4. The value is stored as it is, an alias too. Uses beyond a branch that was declared have read the block's definitions, so it takes no more.
 pub fn define(graph: &[u32], form: &mut [u32], c: Counts, x: u32, y: u32, z: u32) -> Reply
-    requires { ⌜ Some-state (now graph) (now form) c ⌝ }
-    ensures { λ r. ⌜ Answers (now (graph .entry)) (now (form .entry)) (now (graph .entry)) (now (form .exit)) c r (λ g s. define g s x y z) ⌝ }
+    requires { SomeState graph.now form.old c }
+    ensures { Answers graph.now form.old graph.now form.new c result (λ g s. define g s x y z) }
 {
     if reply::no_var(graph, x) {
         return reply::refuse(reply::ABSENT, c);
@@ -127,9 +121,9 @@ pub fn define_answer(
     z: u32,
     w: OptionValue,
 ) -> Reply
-    requires { ⌜ Some-state (now graph) (now form) c ⌝ }
-    ensures { λ r. ⌜ Answers (now (graph .entry)) (now (form .entry)) (now (graph .entry)) (now (form .exit)) c r
-        (λ g s. define-answer g s x z (value-of w)) ⌝ }
+    requires { SomeState graph.now form.old c }
+    ensures { Answers graph.now form.old graph.now form.new c result
+        (λ g s. define_answer g s x z (value_of w)) }
 {
     let OptionValue::Some(val) = w else {
         return reply::refuse(reply::ABSENT, c);
@@ -139,8 +133,8 @@ pub fn define_answer(
 
 // Kind 7. A branch places its block, which may have no value.
 pub fn new_branch(graph: &mut [u32], form: &mut [u32], c: Counts, x: u32) -> Reply
-    requires { ⌜ Some-state (now graph) (now form) c ⌝ }
-    ensures { λ r. ⌜ Answers (now (graph .entry)) (now (form .entry)) (now (graph .exit)) (now (form .exit)) c r (λ g s. new-branch g s x) ⌝ }
+    requires { SomeState graph.old form.old c }
+    ensures { Answers graph.old form.old graph.new form.new c result (λ g s. new_branch g s x) }
 {
     if reply::no_block(graph, x) {
         return reply::refuse(reply::ABSENT, c);
@@ -155,11 +149,11 @@ pub fn new_branch(graph: &mut [u32], form: &mut [u32], c: Counts, x: u32) -> Rep
 
 // Has the builder begun with the block? It is sealed, has a predecessor, or a variable waits there: from then on the builder may give it parameters.
 fn is_begun(graph: &[u32], form: &[u32], block: Block) -> bool
-    requires { ⌜ Graph-with (Seen (now graph)) ⌝ }
-    requires { ⌜ Ex (Has-pending (now form) (block .0)) ⌝ }
-    requires { ⌜ block .0 < limits .blocks ⌝ }
-    ensures { λ r. ⌜ ((g : Graph) → (s : Form) → Seen (now (graph .entry)) g → Has-pending (now (form .entry)) (block .0) s
-        → r ≡ (g .sealed (block .0) || not (length (g .preds (block .0)) =? 0) || not (length (s .pending (block .0)) =? 0))) ⌝ }
+    requires graph_with { GraphWith (Seen graph.now) }
+    requires ex { Ex (HasPending form.now block.0) }
+    requires block_lt_blocks { block.0 < limits.blocks }
+    ensures { (g : Graph) → (s : Form) → Seen graph.now g → HasPending form.now block.0 s
+        → result ≡ (g.sealed block.0 || not (length (g.preds block.0) =? 0) || not (length (s.pending block.0) =? 0)) }
 {
     if graph::is_sealed(graph, block) {
         return true;
@@ -172,8 +166,8 @@ fn is_begun(graph: &[u32], form: &[u32], block: Block) -> bool
 
 // Kind 15. A caller's parameters stand before the builder's. Such a parameter counts as a made value, but it does not place its block.
 pub fn own_param(graph: &[u32], form: &mut [u32], c: Counts, x: u32, y: u32) -> Reply
-    requires { ⌜ Some-state (now graph) (now form) c ⌝ }
-    ensures { λ r. ⌜ Answers (now (graph .entry)) (now (form .entry)) (now (graph .entry)) (now (form .exit)) c r (λ g s. own-param g s x y) ⌝ }
+    requires { SomeState graph.now form.old c }
+    ensures { Answers graph.now form.old graph.now form.new c result (λ g s. own_param g s x y) }
 {
     if reply::no_block(graph, x) {
         return reply::refuse(reply::ABSENT, c);
@@ -199,8 +193,8 @@ pub fn own_param(graph: &[u32], form: &mut [u32], c: Counts, x: u32, y: u32) -> 
 // Kind 16. The caller's arguments feed the caller's parameters of the destination in order, and stand before the builder's: these come once the branch is
 // declared. The value is stored as it is.
 pub fn give_arg(graph: &[u32], form: &mut [u32], c: Counts, x: u32, y: u32, z: u32) -> Reply
-    requires { ⌜ Some-state (now graph) (now form) c ⌝ }
-    ensures { λ r. ⌜ Answers (now (graph .entry)) (now (form .entry)) (now (graph .entry)) (now (form .exit)) c r (λ g s. give-arg g s x y z) ⌝ }
+    requires { SomeState graph.now form.old c }
+    ensures { Answers graph.now form.old graph.now form.new c result (λ g s. give_arg g s x y z) }
 {
     if reply::no_branch(graph, x) {
         return reply::refuse(reply::ABSENT, c);
@@ -229,8 +223,8 @@ pub fn give_arg(graph: &[u32], form: &mut [u32], c: Counts, x: u32, y: u32, z: u
 
 // Kind 17. Stack maps must have what the variable receives. It is marked before it has any definition, so that none is missed.
 pub fn mark_var_needs_stack_map(graph: &mut [u32], form: &[u32], c: Counts, x: u32) -> Reply
-    requires { ⌜ Some-state (now graph) (now form) c ⌝ }
-    ensures { λ r. ⌜ Answers (now (graph .entry)) (now (form .entry)) (now (graph .exit)) (now (form .entry)) c r (λ g s. mark-var g s x) ⌝ }
+    requires { SomeState graph.old form.now c }
+    ensures { Answers graph.old form.now graph.new form.now c result (λ g s. mark_var g s x) }
 {
     if reply::no_var(graph, x) {
         return reply::refuse(reply::ABSENT, c);

@@ -1,10 +1,7 @@
 -- Small things that the definition uses: tests, maps as functions, lists of numbers.
 -- Assumes nothing.
-use Prim.Native.Nat.{ℕ, zero, suc}
-use mathlib.Core.Bool.{Bool, true, false, cond, _&&_, _||_}
-use mathlib.Core.Option.{Option, none, some}
-use mathlib.Core.List.{List, [], _∷_, _++_}
-use lib.Dec.{eqb, ltb, leb}
+use Rattle.std.specs.Prelude.{ℕ, zero, suc, Bool, true, false, cond, ◌&&◌, ◌||◌, List, [], ◌∷◌, ◌++◌, eqb, ltb, leb, if◌then◌else◌}
+use Rattle.std.proofs.Math.Option.{Option, none, some}
 
 -- What a number stands for. A branch bears its block's number.
 abbrev pub Block : Type 0
@@ -16,40 +13,36 @@ Variable = ℕ
 abbrev pub Value : Type 0
 Value = ℕ
 
-infix 40 _=?_ _<?_ _≤?_
-abbrev pub _=?_ : ℕ → ℕ → Bool
+infix 40 ◌=?◌ ◌<?◌ ◌≤?◌
+abbrev pub ◌=?◌ : ℕ → ℕ → Bool
 x =? y = eqb x y
 
-abbrev pub _<?_ : ℕ → ℕ → Bool
+abbrev pub ◌<?◌ : ℕ → ℕ → Bool
 x <? y = ltb x y
 
-abbrev pub _≤?_ : ℕ → ℕ → Bool
+abbrev pub ◌≤?◌ : ℕ → ℕ → Bool
 x ≤? y = leb x y
-
-infixr 10 if_then_else_
-abbrev pub if_then_else_ {ℓ} : {A : Type ℓ} → Bool → A → A → A
-if_then_else_ c a b = cond c a b
 
 -- the map f, but a at k
 abbrev pub put {ℓ} : {A : Type ℓ} → ℕ → A → (ℕ → A) → ℕ → A
-put k a f j = if j =? k then a else f j
+put k a f j = cond (j =? k) a (f j)
 
 -- the map f of two keys, but a at (k, l)
 abbrev pub put₂ {ℓ} : {A : Type ℓ} → ℕ → ℕ → A → (ℕ → ℕ → A) → ℕ → ℕ → A
 put₂ k l a f = put k (put l a (f k)) f
 
-abbrev pub is-some {ℓ} : {A : Type ℓ} → Option A → Bool
-is-some none = false
-is-some (some a) = true
+abbrev pub is_some {ℓ} : {A : Type ℓ} → Option A → Bool
+is_some none = false
+is_some (some a) = true
 
 -- the first if it is there, else the second
-abbrev pub orElse {ℓ} : {A : Type ℓ} → Option A → Option A → Option A
-orElse (some a) b = some a
-orElse none b = b
+abbrev pub or_else {ℓ} : {A : Type ℓ} → Option A → Option A → Option A
+or_else (some a) b = some a
+or_else none b = b
 
 -- the list with a at its end
-infixl 65 _∷ʳ_
-abbrev pub _∷ʳ_ {ℓ} : {A : Type ℓ} → List A → A → List A
+infixl 65 ◌∷ʳ◌
+abbrev pub ◌∷ʳ◌ {ℓ} : {A : Type ℓ} → List A → A → List A
 xs ∷ʳ a = xs ++ (a ∷ [])
 
 -- is x in the list?
@@ -81,6 +74,6 @@ position n x [] = n
 position n x (y ∷ ys) = if x =? y then n else position (suc n) x ys
 
 -- n numbers from i on
-abbrev pub upFrom : ℕ → ℕ → List ℕ
-upFrom i zero = []
-upFrom i (suc n) = i ∷ upFrom (suc i) n
+abbrev pub up_from : ℕ → ℕ → List ℕ
+up_from i zero = []
+up_from i (suc n) = i ∷ up_from (suc i) n

@@ -1,54 +1,52 @@
 -- Lists beyond the starred ones: parameters of the caller's own, and definitions that come late. As there one claim says all answers and every table that each
 -- leaves, proved by computation; what is expected is what the crate itself left, with the rules that requests 04 and 09 add.
 -- Assumes nothing.
-use Prim.Native.Nat.{ℕ}
-use mathlib.Core.Path.{_≡_, refl}
-use mathlib.Core.List.{List, [], _∷_, _++_, map}
-use Rattle·entity.specs.Types.{i8, i32, type-count}
-use Rattle·definition·specs.specs.Session.{Call, session}
-use Rattle·definition·specs.specs.Calls.{declare-var, make-value, define, define-answer, use-var, new-branch, new-dest, add-pred, drop-pred, seal, seal-all}
-use Rattle·definition·specs.specs.Calls.{own-param, give-arg, blocks, sets, jumps}
-use Rattle·definition·specs.specs.Tables.{Tables, tables}
+use Rattle.std.specs.Prelude.{◌≡◌, refl, List, [], ◌∷◌, ◌++◌, map}
+use Rattle.entity.specs.Types.{i8, i32, type_count}
+use Rattle.definition.specs.Session.{Call, session}
+use Rattle.definition.specs.Calls.{declare_var, make_value, define, define_answer, use_var, new_branch, new_dest, add_pred, drop_pred, seal, seal_all}
+use Rattle.definition.specs.Calls.{own_param, give_arg, blocks, sets, jumps}
+use Rattle.definition.specs.Tables.{Tables, tables}
 
 pub cases : List (List Call)
 cases =
     -- M. A loop that carries an index: block 1's own parameter 0 takes 1 from block 0 and 4 from the loop; variable 1 keeps the builder's parameter 3
     -- behind it.
     (
-    blocks 3 ++ declare-var 0 i32 ∷ declare-var 1 i32 ∷ own-param 1 i32 ∷ make-value 0 i32 ∷ [] ++ sets 1 i32 2 0
-    ++ new-branch 0 ∷ new-dest 0 1 ∷ give-arg 0 1 0 ∷ add-pred 1 0 ∷ []
-    ++ define 0 0 1 ∷ use-var 0 1 ∷ use-var 1 1 ∷ make-value 1 i32 ∷ [] ++ sets 1 i32 5 1
-    ++ new-branch 1 ∷ new-dest 1 1 ∷ new-dest 1 2 ∷ give-arg 1 4 0 ∷ add-pred 1 1 ∷ add-pred 2 1 ∷ seal-all ∷ use-var 0 2 ∷ use-var 1 2 ∷ []
+    blocks 3 ++ declare_var 0 i32 ∷ declare_var 1 i32 ∷ own_param 1 i32 ∷ make_value 0 i32 ∷ [] ++ sets 1 i32 2 0
+    ++ new_branch 0 ∷ new_dest 0 1 ∷ give_arg 0 1 0 ∷ add_pred 1 0 ∷ []
+    ++ define 0 0 1 ∷ use_var 0 1 ∷ use_var 1 1 ∷ make_value 1 i32 ∷ [] ++ sets 1 i32 5 1
+    ++ new_branch 1 ∷ new_dest 1 1 ∷ new_dest 1 2 ∷ give_arg 1 4 0 ∷ add_pred 1 1 ∷ add_pred 2 1 ∷ seal_all ∷ use_var 0 2 ∷ use_var 1 2 ∷ []
     ) ∷
     -- N. No argument is given for block 1's own parameter 0: the builder's arguments stand in its place.
     (
-    blocks 2 ++ declare-var 0 i32 ∷ own-param 1 i32 ∷ [] ++ sets 0 i32 1 0 ++ jumps 0 (1 ∷ []) ++ use-var 0 1 ∷ []
-    ++ sets 0 i32 3 1 ++ jumps 1 (1 ∷ []) ++ seal-all ∷ []
+    blocks 2 ++ declare_var 0 i32 ∷ own_param 1 i32 ∷ [] ++ sets 0 i32 1 0 ++ jumps 0 (1 ∷ []) ++ use_var 0 1 ∷ []
+    ++ sets 0 i32 3 1 ++ jumps 1 (1 ∷ []) ++ seal_all ∷ []
     ) ∷
     -- O. A parameter of one's own gets 6 for an absent block or type, then 17 where the block has a pending use, a declared predecessor or is sealed; once
     -- the predecessor is removed it is accepted.
     (
-    blocks 3 ++ declare-var 0 i32 ∷ own-param 3 i32 ∷ own-param 0 type-count ∷ use-var 0 0 ∷ own-param 0 i32 ∷ own-param 1 i32 ∷ own-param 1 i8 ∷ []
-    ++ jumps 0 (1 ∷ []) ++ own-param 1 i32 ∷ own-param 0 type-count ∷ drop-pred 1 0 ∷ own-param 1 i32 ∷ seal 2 ∷ own-param 2 i32 ∷ own-param 2 type-count ∷ []
+    blocks 3 ++ declare_var 0 i32 ∷ own_param 3 i32 ∷ own_param 0 type_count ∷ use_var 0 0 ∷ own_param 0 i32 ∷ own_param 1 i32 ∷ own_param 1 i8 ∷ []
+    ++ jumps 0 (1 ∷ []) ++ own_param 1 i32 ∷ own_param 0 type_count ∷ drop_pred 1 0 ∷ own_param 1 i32 ∷ seal 2 ∷ own_param 2 i32 ∷ own_param 2 type_count ∷ []
     ) ∷
     -- P. An argument gets 6 for an absent branch, value or destination, then 11 where the branch is declared, then 18 where the target has no own parameter
     -- left, also where it has one of the builder's, and whatever the type, then 7 for another type.
     (
-    blocks 4 ++ declare-var 0 i32 ∷ own-param 1 i32 ∷ own-param 1 i8 ∷ use-var 0 3 ∷ []
-    ++ new-branch 0 ∷ new-dest 0 1 ∷ new-dest 0 2 ∷ new-dest 0 3 ∷ make-value 2 i32 ∷ make-value 2 i8 ∷ []
-    ++ give-arg 1 3 0 ∷ give-arg 0 5 0 ∷ give-arg 0 3 3 ∷ give-arg 0 4 0 ∷ give-arg 0 3 0 ∷ give-arg 0 3 0 ∷ give-arg 0 1 0 ∷ []
-    ++ give-arg 0 0 0 ∷ give-arg 0 3 1 ∷ give-arg 0 4 1 ∷ give-arg 0 3 2 ∷ []
-    ++ add-pred 2 0 ∷ give-arg 0 3 1 ∷ give-arg 0 9 1 ∷ drop-pred 2 0 ∷ give-arg 0 3 1 ∷ own-param 2 i32 ∷ give-arg 0 3 1 ∷ []
+    blocks 4 ++ declare_var 0 i32 ∷ own_param 1 i32 ∷ own_param 1 i8 ∷ use_var 0 3 ∷ []
+    ++ new_branch 0 ∷ new_dest 0 1 ∷ new_dest 0 2 ∷ new_dest 0 3 ∷ make_value 2 i32 ∷ make_value 2 i8 ∷ []
+    ++ give_arg 1 3 0 ∷ give_arg 0 5 0 ∷ give_arg 0 3 3 ∷ give_arg 0 4 0 ∷ give_arg 0 3 0 ∷ give_arg 0 3 0 ∷ give_arg 0 1 0 ∷ []
+    ++ give_arg 0 0 0 ∷ give_arg 0 3 1 ∷ give_arg 0 4 1 ∷ give_arg 0 3 2 ∷ []
+    ++ add_pred 2 0 ∷ give_arg 0 3 1 ∷ give_arg 0 9 1 ∷ drop_pred 2 0 ∷ give_arg 0 3 1 ∷ own_param 2 i32 ∷ give_arg 0 3 1 ∷ []
     ) ∷
     -- Q. A definition in block 0 gets 20 once its branch was declared, after 6 and 7, also once it was removed.
     (
-    blocks 2 ++ declare-var 0 i32 ∷ declare-var 1 i8 ∷ make-value 0 i32 ∷ use-var 0 0 ∷ [] ++ jumps 0 (1 ∷ [])
-    ++ define 0 0 0 ∷ define-answer 0 5 0 ∷ define 1 0 0 ∷ define 0 9 0 ∷ define-answer 1 4 0 ∷ drop-pred 1 0 ∷ define 0 0 0 ∷ define 0 0 1 ∷ []
+    blocks 2 ++ declare_var 0 i32 ∷ declare_var 1 i8 ∷ make_value 0 i32 ∷ use_var 0 0 ∷ [] ++ jumps 0 (1 ∷ [])
+    ++ define 0 0 0 ∷ define_answer 0 5 0 ∷ define 1 0 0 ∷ define 0 9 0 ∷ define_answer 1 4 0 ∷ drop_pred 1 0 ∷ define 0 0 0 ∷ define 0 0 1 ∷ []
     ) ∷
     -- R. The builder's parameter 2 of block 1 becomes another name of value 1 and leaves the list; the caller's parameter 0 before it stays.
     (
-    blocks 2 ++ declare-var 0 i32 ∷ own-param 1 i32 ∷ [] ++ sets 0 i32 1 0
-    ++ new-branch 0 ∷ new-dest 0 1 ∷ give-arg 0 1 0 ∷ add-pred 1 0 ∷ use-var 0 1 ∷ seal-all ∷ []
+    blocks 2 ++ declare_var 0 i32 ∷ own_param 1 i32 ∷ [] ++ sets 0 i32 1 0
+    ++ new_branch 0 ∷ new_dest 0 1 ∷ give_arg 0 1 0 ∷ add_pred 1 0 ∷ use_var 0 1 ∷ seal_all ∷ []
     ) ∷
     []
 

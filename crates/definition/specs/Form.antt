@@ -1,10 +1,8 @@
 -- The state: the graph, and the form that is built over it.
 -- Assumes nothing.
-use Prim.Native.Nat.{ℕ}
-use mathlib.Core.Bool.{Bool}
-use mathlib.Core.Option.{Option}
-use mathlib.Core.List.{List}
-use Rattle·definition·specs.specs.Base.{Block, Variable, Value, orElse}
+use Rattle.std.specs.Prelude.{ℕ, Bool, List}
+use Rattle.std.proofs.Math.Option.{Option}
+use Rattle.definition.specs.Base.{Block, Variable, Value, or_else}
 
 -- What does not change while a variable is read.
 pub record Graph : Type 0 where
@@ -44,7 +42,7 @@ pub record Form : Type 0 where
 
 -- The recorded definition, one table in the crate. Nothing is recorded at a block's beginning once it has a definition.
 abbrev pub def : Form → Variable → Block → Option Value
-def s v b = orElse (s .own v b) (s .entry v b)
+def s v b = or_else (s.own v b) (s.entry v b)
 
 -- A record from its fields, in their order; and the record with one field changed.
 abbrev pub graph : ℕ → ℕ → List ℕ → (Block → Bool) → (Block → List Block) → (Block → List Block) → (Block → Bool)
@@ -53,34 +51,34 @@ graph c n ts br ds ps sl dc mk =
     record { call = c; blocks = n; types = ts; branch = br; dests = ds; preds = ps; sealed = sl; declared = dc; marks = mk }
 
 module _ (g : Graph) where
-  open Graph g using (call, blocks, types, branch, dests, preds, sealed, declared, marks)
+  open g use {call, blocks, types, branch, dests, preds, sealed, declared, marks}
 
-  abbrev pub with-call : ℕ → Graph
-  with-call new = graph new blocks types branch dests preds sealed declared marks
+  abbrev pub with_call : ℕ → Graph
+  with_call new = graph new blocks types branch dests preds sealed declared marks
 
-  abbrev pub with-blocks : ℕ → Graph
-  with-blocks new = graph call new types branch dests preds sealed declared marks
+  abbrev pub with_blocks : ℕ → Graph
+  with_blocks new = graph call new types branch dests preds sealed declared marks
 
-  abbrev pub with-types : List ℕ → Graph
-  with-types new = graph call blocks new branch dests preds sealed declared marks
+  abbrev pub with_types : List ℕ → Graph
+  with_types new = graph call blocks new branch dests preds sealed declared marks
 
-  abbrev pub with-branch : (Block → Bool) → Graph
-  with-branch new = graph call blocks types new dests preds sealed declared marks
+  abbrev pub with_branch : (Block → Bool) → Graph
+  with_branch new = graph call blocks types new dests preds sealed declared marks
 
-  abbrev pub with-dests : (Block → List Block) → Graph
-  with-dests new = graph call blocks types branch new preds sealed declared marks
+  abbrev pub with_dests : (Block → List Block) → Graph
+  with_dests new = graph call blocks types branch new preds sealed declared marks
 
-  abbrev pub with-preds : (Block → List Block) → Graph
-  with-preds new = graph call blocks types branch dests new sealed declared marks
+  abbrev pub with_preds : (Block → List Block) → Graph
+  with_preds new = graph call blocks types branch dests new sealed declared marks
 
-  abbrev pub with-sealed : (Block → Bool) → Graph
-  with-sealed new = graph call blocks types branch dests preds new declared marks
+  abbrev pub with_sealed : (Block → Bool) → Graph
+  with_sealed new = graph call blocks types branch dests preds new declared marks
 
-  abbrev pub with-declared : (Block → Bool) → Graph
-  with-declared new = graph call blocks types branch dests preds sealed new marks
+  abbrev pub with_declared : (Block → Bool) → Graph
+  with_declared new = graph call blocks types branch dests preds sealed new marks
 
-  abbrev pub with-marks : (Variable → Bool) → Graph
-  with-marks new = graph call blocks types branch dests preds sealed declared new
+  abbrev pub with_marks : (Variable → Bool) → Graph
+  with_marks new = graph call blocks types branch dests preds sealed declared new
 
 abbrev pub form : ℕ → ℕ → (Value → Info) → (Value → Value) → (Block → List Value) → (Block → ℕ) → (Block → ℕ → List Value)
     → (Block → List (Variable × Value)) → (Variable → Block → Option Value) → (Variable → Block → Option Value)
@@ -102,43 +100,43 @@ form n mk i t ps os us ws en ow zs pl rc = record {
 }
 
 module _ (s : Form) where
-  open Form s using (next, makes, info, target, params, owns, args, pending, entry, own, zeros, placed, recorded)
+  open s use {next, makes, info, target, params, owns, args, pending, entry, own, zeros, placed, recorded}
 
-  abbrev pub with-next : ℕ → Form
-  with-next new = form new makes info target params owns args pending entry own zeros placed recorded
+  abbrev pub with_next : ℕ → Form
+  with_next new = form new makes info target params owns args pending entry own zeros placed recorded
 
-  abbrev pub with-makes : ℕ → Form
-  with-makes new = form next new info target params owns args pending entry own zeros placed recorded
+  abbrev pub with_makes : ℕ → Form
+  with_makes new = form next new info target params owns args pending entry own zeros placed recorded
 
-  abbrev pub with-info : (Value → Info) → Form
-  with-info new = form next makes new target params owns args pending entry own zeros placed recorded
+  abbrev pub with_info : (Value → Info) → Form
+  with_info new = form next makes new target params owns args pending entry own zeros placed recorded
 
-  abbrev pub with-target : (Value → Value) → Form
-  with-target new = form next makes info new params owns args pending entry own zeros placed recorded
+  abbrev pub with_target : (Value → Value) → Form
+  with_target new = form next makes info new params owns args pending entry own zeros placed recorded
 
-  abbrev pub with-params : (Block → List Value) → Form
-  with-params new = form next makes info target new owns args pending entry own zeros placed recorded
+  abbrev pub with_params : (Block → List Value) → Form
+  with_params new = form next makes info target new owns args pending entry own zeros placed recorded
 
-  abbrev pub with-owns : (Block → ℕ) → Form
-  with-owns new = form next makes info target params new args pending entry own zeros placed recorded
+  abbrev pub with_owns : (Block → ℕ) → Form
+  with_owns new = form next makes info target params new args pending entry own zeros placed recorded
 
-  abbrev pub with-args : (Block → ℕ → List Value) → Form
-  with-args new = form next makes info target params owns new pending entry own zeros placed recorded
+  abbrev pub with_args : (Block → ℕ → List Value) → Form
+  with_args new = form next makes info target params owns new pending entry own zeros placed recorded
 
-  abbrev pub with-pending : (Block → List (Variable × Value)) → Form
-  with-pending new = form next makes info target params owns args new entry own zeros placed recorded
+  abbrev pub with_pending : (Block → List (Variable × Value)) → Form
+  with_pending new = form next makes info target params owns args new entry own zeros placed recorded
 
-  abbrev pub with-entry : (Variable → Block → Option Value) → Form
-  with-entry new = form next makes info target params owns args pending new own zeros placed recorded
+  abbrev pub with_entry : (Variable → Block → Option Value) → Form
+  with_entry new = form next makes info target params owns args pending new own zeros placed recorded
 
-  abbrev pub with-own : (Variable → Block → Option Value) → Form
-  with-own new = form next makes info target params owns args pending entry new zeros placed recorded
+  abbrev pub with_own : (Variable → Block → Option Value) → Form
+  with_own new = form next makes info target params owns args pending entry new zeros placed recorded
 
-  abbrev pub with-zeros : List (ℕ × Block) → Form
-  with-zeros new = form next makes info target params owns args pending entry own new placed recorded
+  abbrev pub with_zeros : List (ℕ × Block) → Form
+  with_zeros new = form next makes info target params owns args pending entry own new placed recorded
 
-  abbrev pub with-placed : List Block → Form
-  with-placed new = form next makes info target params owns args pending entry own zeros new recorded
+  abbrev pub with_placed : List Block → Form
+  with_placed new = form next makes info target params owns args pending entry own zeros new recorded
 
-  abbrev pub with-recorded : (Value → Bool) → Form
-  with-recorded new = form next makes info target params owns args pending entry own zeros placed new
+  abbrev pub with_recorded : (Value → Bool) → Form
+  with_recorded new = form next makes info target params owns args pending entry own zeros placed new

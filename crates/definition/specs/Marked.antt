@@ -1,27 +1,26 @@
 -- Lists with marks for stack maps. As with the starred ones one claim says all answers and every table that each leaves, proved by computation; what is
 -- expected is what the crate itself left, with the rules that requests 04, 07 and 09 add.
 -- Assumes nothing.
-use mathlib.Core.Path.{_≡_, refl}
-use mathlib.Core.List.{List, [], _∷_, _++_, map}
-use Rattle·entity.specs.Types.{i32}
-use Rattle·definition·specs.specs.Session.{Call, session}
-use Rattle·definition·specs.specs.Calls.{declare-var, define-answer, use-var, seal, seal-all, mark-var, blocks, sets, jumps}
-use Rattle·definition·specs.specs.Tables.{Tables, tables}
+use Rattle.std.specs.Prelude.{◌≡◌, refl, List, [], ◌∷◌, ◌++◌, map}
+use Rattle.entity.specs.Types.{i32}
+use Rattle.definition.specs.Session.{Call, session}
+use Rattle.definition.specs.Calls.{declare_var, define_answer, use_var, seal, seal_all, mark_var, blocks, sets, jumps}
+use Rattle.definition.specs.Tables.{Tables, tables}
 
 unfoldable pub cases : List (List Call)
 cases =
     -- S. Variable 0 is marked, twice; 6 for an absent one, 19 for both once they have a definition. Recorded are 0 and 2, which it is given, its
     -- parameter 3, and 4, a parameter of variable 1 that it is given; not 1, which variable 1 is given and two walks copy.
     (
-    blocks 4 ++ declare-var 0 i32 ∷ declare-var 1 i32 ∷ mark-var 0 ∷ mark-var 0 ∷ mark-var 2 ∷ [] ++ sets 0 i32 0 0 ++ sets 1 i32 1 0
-    ++ mark-var 0 ∷ mark-var 1 ∷ [] ++ jumps 0 (1 ∷ 2 ∷ []) ++ jumps 1 (3 ∷ []) ++ sets 0 i32 2 2 ++ jumps 2 (3 ∷ [])
-    ++ seal-all ∷ use-var 0 3 ∷ use-var 1 3 ∷ use-var 1 3 ∷ define-answer 0 31 3 ∷ []
+    blocks 4 ++ declare_var 0 i32 ∷ declare_var 1 i32 ∷ mark_var 0 ∷ mark_var 0 ∷ mark_var 2 ∷ [] ++ sets 0 i32 0 0 ++ sets 1 i32 1 0
+    ++ mark_var 0 ∷ mark_var 1 ∷ [] ++ jumps 0 (1 ∷ 2 ∷ []) ++ jumps 1 (3 ∷ []) ++ sets 0 i32 2 2 ++ jumps 2 (3 ∷ [])
+    ++ seal_all ∷ use_var 0 3 ∷ use_var 1 3 ∷ use_var 1 3 ∷ define_answer 0 31 3 ∷ []
     ) ∷
     -- T. Variable 0 is marked: its parameter 0 is recorded, its zero 1 is not, though variable 1 is given it; zero 3 is, since variable 0 is given it. 19 also
     -- where a pending use is all that there is; a variable without a definition is marked where others have one.
     (
-    blocks 3 ++ declare-var 0 i32 ∷ declare-var 1 i32 ∷ declare-var 2 i32 ∷ declare-var 3 i32 ∷ mark-var 0 ∷ seal 0 ∷ use-var 0 0 ∷ use-var 1 0 ∷ []
-    ++ define-answer 0 10 1 ∷ use-var 1 0 ∷ define-answer 1 9 2 ∷ use-var 2 2 ∷ mark-var 1 ∷ mark-var 2 ∷ mark-var 3 ∷ []
+    blocks 3 ++ declare_var 0 i32 ∷ declare_var 1 i32 ∷ declare_var 2 i32 ∷ declare_var 3 i32 ∷ mark_var 0 ∷ seal 0 ∷ use_var 0 0 ∷ use_var 1 0 ∷ []
+    ++ define_answer 0 10 1 ∷ use_var 1 0 ∷ define_answer 1 9 2 ∷ use_var 2 2 ∷ mark_var 1 ∷ mark_var 2 ∷ mark_var 3 ∷ []
     ) ∷
     []
 

@@ -1,16 +1,13 @@
 -- Resolving an alias over any list of targets: follow targets until a value that is its own target.
 -- Assumes nothing.
-use Prim.Native.Nat.{ℕ, _<_, _≤_}
-use mathlib.Core.Path.{_≡_}
-use mathlib.Core.List.{List, map}
-use lib.ListN.{length, getD}
-use Rattle·definition·specs.specs.Base.{upFrom}
-use Rattle·definition·specs.specs.Form.{Form}
+use Rattle.std.specs.Prelude.{ℕ, ◌<◌, ◌≤◌, ◌≡◌, List, map, length, get_or}
+use Rattle.definition.specs.Base.{up_from}
+use Rattle.definition.specs.Form.{Form}
 
 -- the walk from x stays in the list and ends at y
 pub data Ends (ts : List ℕ) : ℕ → ℕ → Type 0 where
-  here : {x : ℕ} → x < length ts → getD ts x 0 ≡ x → Ends ts x x
-  on : {x y : ℕ} → x < length ts → Ends ts (getD ts x 0) y → Ends ts x y
+  here : {x : ℕ} → x < length ts → get_or ts x 0 ≡ x → Ends ts x x
+  on : {x y : ℕ} → x < length ts → Ends ts (get_or ts x 0) y → Ends ts x y
 
 -- the answer's code and number: x is past the list; the walk ends at y; it leaves the list or never ends
 pub data Resolved (ts : List ℕ) (x : ℕ) : ℕ → ℕ → Type 0 where
@@ -20,4 +17,4 @@ pub data Resolved (ts : List ℕ) (x : ℕ) : ℕ → ℕ → Type 0 where
 
 -- the targets of all values of a form
 abbrev pub targets : Form → List ℕ
-targets s = map (s .target) (upFrom 0 (s .next))
+targets s = map s.target (up_from 0 s.next)

@@ -1,13 +1,9 @@
 -- A whole session: the lengths of what is lent decide whether it is run at all; if it is, the calls are run in turn.
 -- Assumes nothing.
-use Prim.Native.Nat.{ℕ}
-use mathlib.Core.Path.{_≡_, refl}
-use mathlib.Core.Bool.{Bool, not, _&&_, _||_}
-use mathlib.Core.List.{List, [], _∷_}
-use lib.ListN.{length}
-use Rattle·entity.specs.Limits.{limits, graph-need, form-need, work-need}
-use Rattle·definition·specs.specs.Base.{_=?_, _<?_, if_then_else_}
-use Rattle·definition·specs.specs.Session.{Call}
+use Rattle.std.specs.Prelude.{ℕ, ◌≡◌, refl, Bool, not, ◌&&◌, ◌||◌, List, [], ◌∷◌, length, if◌then◌else◌}
+use Rattle.entity.specs.Limits.{limits, graph_need, form_need, work_need}
+use Rattle.definition.specs.Base.{◌=?◌, ◌<?◌}
+use Rattle.definition.specs.Session.{Call}
 
 -- the calls, from four lists of equal length: kinds, xs, ys, zs
 abbrev pub calls : List ℕ → List ℕ → List ℕ → List ℕ → List Call
@@ -27,21 +23,21 @@ pub record Lengths : Type 0 where
 
 -- what n calls need: a cell a call for the answers, and every table its full limit
 abbrev pub needs : ℕ → Lengths
-needs n = record { codes = n; numbers = n; graph = graph-need limits; form = form-need limits; work = work-need limits }
+needs n = record { codes = n; numbers = n; graph = graph_need limits; form = form_need limits; work = work_need limits }
 
 -- some list is shorter than this
 abbrev pub short : Lengths → Lengths → Bool
-short m t = t .codes <? m .codes || t .numbers <? m .numbers || t .graph <? m .graph || t .form <? m .form || t .work <? m .work
+short m t = t.codes <? m.codes || t.numbers <? m.numbers || t.graph <? m.graph || t.form <? m.form || t.work <? m.work
 
 -- the call lists differ in length, or exceed the limit
 abbrev pub unfit : List ℕ → List ℕ → List ℕ → List ℕ → Bool
 unfit ks xs ys zs =
-    not (length xs =? length ks && length ys =? length ks && length zs =? length ks) || limits .calls <? length ks
+    not (length xs =? length ks && length ys =? length ks && length zs =? length ks) || limits.calls <? length ks
 
 -- what the session itself answers: 2 or 1 when it is refused whole, 0 when it is run
-abbrev pub whole-answer : List ℕ → List ℕ → List ℕ → List ℕ → Lengths → ℕ
-whole-answer ks xs ys zs t = if unfit ks xs ys zs then 2 else if short (needs (length ks)) t then 1 else 0
+abbrev pub whole_answer : List ℕ → List ℕ → List ℕ → List ℕ → Lengths → ℕ
+whole_answer ks xs ys zs t = if unfit ks xs ys zs then 2 else if short (needs (length ks)) t then 1 else 0
 
 -- 2 comes before 1: one kind without its numbers, and lists with no cell for its answer
-both-wrong : whole-answer (1 ∷ []) [] [] [] (needs 0) ≡ 2
-both-wrong = refl
+both_wrong : whole_answer (1 ∷ []) [] [] [] (needs 0) ≡ 2
+both_wrong = refl

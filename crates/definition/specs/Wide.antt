@@ -1,15 +1,13 @@
 -- Lists with wide types: zeros in one step and in two. As in Starred one claim says all answers and every table that each leaves, proved by computation; what
 -- is expected is what the crate itself left, with the rules that requests 04, 06, 07 and 09 add.
 -- Assumes nothing.
-use Prim.Native.Nat.{ℕ}
-use mathlib.Core.Path.{_≡_, refl}
-use mathlib.Core.List.{List, [], _∷_, _++_, map}
-use Rattle·entity.specs.Types.{i64, type-count}
-use Rattle·definition·specs.specs.Base.{upFrom}
-use Rattle·definition·specs.specs.Session.{Call, session}
-use Rattle·definition·specs.specs.Calls.{declare-var, make-value, define, use-var, new-branch, new-dest, add-pred, seal, seal-all, own-param}
-use Rattle·definition·specs.specs.Calls.{give-arg, mark-var, blocks, jumps}
-use Rattle·definition·specs.specs.Tables.{Tables, tables}
+use Rattle.std.specs.Prelude.{ℕ, ◌≡◌, refl, List, [], ◌∷◌, ◌++◌, map}
+use Rattle.entity.specs.Types.{i64, type_count}
+use Rattle.definition.specs.Base.{up_from}
+use Rattle.definition.specs.Session.{Call, session}
+use Rattle.definition.specs.Calls.{declare_var, make_value, define, use_var, new_branch, new_dest, add_pred, seal, seal_all, own_param}
+use Rattle.definition.specs.Calls.{give_arg, mark_var, blocks, jumps}
+use Rattle.definition.specs.Tables.{Tables, tables}
 
 -- the numbers of the types I128, F16X8 and F32X4
 abbrev i128 : ℕ
@@ -26,18 +24,18 @@ cases =
     -- U. An I128 that block 0 never defines: the zero is 2, made from the I64 zero 1, and the parameter 0 is an alias of 2. The step 1 may be given to an I64
     -- variable and passed on as an argument; it isn't an I128. The I128 variable is marked: recorded are 0, and 2 once it is given, but not the step.
     (
-    blocks 2 ++ declare-var 0 i128 ∷ declare-var 1 i64 ∷ mark-var 0 ∷ seal 0 ∷ use-var 0 0 ∷ use-var 0 0 ∷ []
-    ++ define 0 1 0 ∷ define 1 2 0 ∷ define 1 1 0 ∷ define 0 2 0 ∷ own-param 1 i64 ∷ []
-    ++ new-branch 0 ∷ new-dest 0 1 ∷ give-arg 0 1 0 ∷ add-pred 1 0 ∷ seal 1 ∷ use-var 0 1 ∷ use-var 1 1 ∷ []
+    blocks 2 ++ declare_var 0 i128 ∷ declare_var 1 i64 ∷ mark_var 0 ∷ seal 0 ∷ use_var 0 0 ∷ use_var 0 0 ∷ []
+    ++ define 0 1 0 ∷ define 1 2 0 ∷ define 1 1 0 ∷ define 0 2 0 ∷ own_param 1 i64 ∷ []
+    ++ new_branch 0 ∷ new_dest 0 1 ∷ give_arg 0 1 0 ∷ add_pred 1 0 ∷ seal 1 ∷ use_var 0 1 ∷ use_var 1 1 ∷ []
     ) ∷
     -- V. Vectors of floats, two that wait and one in a loop: a scalar, then the vector. The seal of block 0 counts two zeros, and the log has a row for each.
     (
-    blocks 2 ++ declare-var 0 f32x4 ∷ declare-var 1 f16x8 ∷ use-var 0 0 ∷ use-var 1 0 ∷ seal 0 ∷ use-var 0 1 ∷ [] ++ jumps 1 (1 ∷ []) ++ seal-all ∷ []
+    blocks 2 ++ declare_var 0 f32x4 ∷ declare_var 1 f16x8 ∷ use_var 0 0 ∷ use_var 1 0 ∷ seal 0 ∷ use_var 0 1 ∷ [] ++ jumps 1 (1 ∷ []) ++ seal_all ∷ []
     ) ∷
     -- W. A zero of every type. The count of types is no type's number.
     (
-    blocks 1 ++ map (λ t. declare-var t t) (upFrom 0 25) ++ declare-var 25 type-count ∷ make-value 0 type-count ∷ own-param 0 type-count ∷ seal-all ∷ []
-    ++ map (λ t. use-var t 0) (upFrom 0 25)
+    blocks 1 ++ map (λ t. declare_var t t) (up_from 0 25) ++ declare_var 25 type_count ∷ make_value 0 type_count ∷ own_param 0 type_count ∷ seal_all ∷ []
+    ++ map (λ t. use_var t 0) (up_from 0 25)
     ) ∷
     []
 

@@ -1,1 +1,2 @@
 // What a session means. This crate has no code: specs/ is what a reader must believe.
+#![tactic(auto)]

@@ -1,9 +1,12 @@
 // A finished session's tables as a picture: Graphviz's DOT, as text in a lent buffer. The tables may hold anything: what can't be drawn gets a code.
+#![tactic(auto)]
+
 mod text;
 
-ghost use Rattle·draw·specs.specs.Draws.{Draws};
+ghost use Rattle.draw.specs.Draws.{Draws};
 
 // What a drawing answers: code 0 and the text's length, or another code and 0.
+#[derive(Clone, Copy)]
 pub struct Drawn {
     pub code: u32,
     pub length: usize,
@@ -26,7 +29,7 @@ const NOT_DRAWABLE: Drawn = Drawn {
 
 // Writes the picture into the buffer. Until every code is settled no byte of it is written: the text is measured by writing it where there is no room.
 pub fn draw(graph: &[u32], form: &[u32], buffer: &mut [u8]) -> Drawn
-    ensures { λ r. ⌜ Draws (now (graph .entry)) (now (form .entry)) (now (buffer .entry)) (now (buffer .exit)) (r .code) (r .length) ⌝ }
+    ensures { Draws graph.now form.now buffer.old buffer.new result.code result.length }
 {
     if graph.len() < entity::GRAPH_NEED {
         return SHORT;

@@ -1,29 +1,25 @@
 // The text of a picture, line by line. Each function answers the place after its lines.
-ghost use mathlib.Core.Path.{_≡_};
-ghost use mathlib.Core.Bool.{true};
-ghost use Prim.Native.Nat.{ℕ, _+_, _*_, _<_, _≤_, _^_};
-ghost use lib.ListN.{length, getD};
-ghost use Rattle·entity.specs.Limits.{limits, param-room, form-need};
-ghost use Rattle·definition.specs.Base.{upFrom};
-ghost use Rattle·lines.specs.Text.{each, block-line, edge-line, edge-lines, text};
-ghost use Rattle·layout.specs.Rows.{entries};
-ghost use Rattle·drawable.specs.Fits.{params-at, args-at, blocks, branches};
-ghost use Rattle·draw·specs.specs.Seen.{seen};
-ghost use Rattle·lines.specs.Wrote.{Wrote, line-most};
-ghost use Rattle·drawable.specs.Drawable.{Long, Branch-fits, Drawable};
+ghost use Rattle.std.specs.Prelude.{◌≡◌, true, ℕ, ◌+◌, ◌*◌, ◌<◌, ◌≤◌, ◌^◌, length, get_or};
+ghost use Rattle.entity.specs.Limits.{limits, param_room, form_need};
+ghost use Rattle.definition.specs.Base.{up_from};
+ghost use Rattle.lines.specs.Text.{each, block_line, edge_line, edge_lines, text};
+ghost use Rattle.layout.specs.Rows.{entries};
+ghost use Rattle.drawable.specs.Fits.{params_at, args_at, blocks, branches};
+ghost use Rattle.draw.specs.Seen.{seen};
+ghost use Rattle.lines.specs.Wrote.{Wrote, line_most};
+ghost use Rattle.drawable.specs.Drawable.{Long, BranchFits, Drawable};
+
 use drawable::cells;
-use entity::Block;
-use entity::Branch;
+use entity::{Block, Branch};
 use lines::buffer::put;
-use lines::put_block;
-use lines::put_edge;
+use lines::{put_block, put_edge};
 
 fn put_blocks(out: &mut [u8], at: usize, graph: &[u32], form: &[u32]) -> usize
-    requires { ⌜ at < 2 ^ 57 ⌝ }
-    requires { ⌜ Long (now graph) (now form) × Drawable (now graph) (now form) ⌝ }
-    ensures { λ r. ⌜ Wrote (now (out .entry)) at
-        (each (λ b. block-line b (entries (now (form .entry)) (params-at b))) (upFrom 0 (blocks (now (graph .entry))))) (now (out .exit)) r ⌝ }
-    ensures { λ r. ⌜ r ≤ at + limits .blocks * line-most ⌝ }
+    requires at_bound { at < 2 ^ 57 }
+    requires long { Long graph.now form.now × Drawable graph.now form.now }
+    ensures wrote { Wrote out.old at
+        (each (λ b. block_line b (entries form.now (params_at b))) (up_from 0 (blocks graph.now))) out.new result }
+    ensures upper_bound { result ≤ at + limits.blocks * line_most }
 {
     let blocks = graph[layout::BLOCK_COUNT];
     let mut a = at;
@@ -38,13 +34,13 @@ fn put_blocks(out: &mut [u8], at: usize, graph: &[u32], form: &[u32]) -> usize
 
 // The branch's destinations, in their order.
 fn put_dests(out: &mut [u8], at: usize, form: &[u32], branch: Branch, dests: &[u32]) -> usize
-    requires { ⌜ (at < 2 ^ 57) × (branch .0 < limits .blocks) × (length (now dests) ≤ limits .dests) ⌝ }
-    requires { ⌜ form-need limits ≤ length (now form) ⌝ }
-    requires { ⌜ ((i : ℕ) → i < length (now dests) → getD (now form) (args-at (branch .0) i) 0 ≤ param-room limits) ⌝ }
-    ensures { λ r. ⌜ Wrote (now (out .entry)) at
-        (each (λ i. edge-line (branch .0) (getD (now (dests .entry)) i 0) (entries (now (form .entry)) (args-at (branch .0) i)))
-        (upFrom 0 (length (now (dests .entry))))) (now (out .exit)) r ⌝ }
-    ensures { λ r. ⌜ r ≤ at + limits .dests * line-most ⌝ }
+    requires at_bound { (at < 2 ^ 57) × (branch.0 < limits.blocks) × (length dests.now ≤ limits.dests) }
+    requires limits_in_bounds { form_need limits ≤ length form.now }
+    requires by_index { (i : ℕ) → i < length dests.now → get_or form.now (args_at branch.0 i) 0 ≤ param_room limits }
+    ensures wrote { Wrote out.old at
+        (each (λ i. edge_line branch.0 (get_or dests.now i 0) (entries form.now (args_at branch.0 i)))
+        (up_from 0 (length dests.now))) out.new result }
+    ensures upper_bound { result ≤ at + limits.dests * line_most }
 {
     let mut a = at;
     let mut i: usize = 0;
@@ -57,11 +53,11 @@ fn put_dests(out: &mut [u8], at: usize, form: &[u32], branch: Branch, dests: &[u
 }
 
 fn put_branch(out: &mut [u8], at: usize, graph: &[u32], form: &[u32], branch: Branch) -> usize
-    requires { ⌜ (at < 2 ^ 57) × (branch .0 < limits .blocks) ⌝ }
-    requires { ⌜ Long (now graph) (now form) ⌝ }
-    requires { ⌜ (branches (now graph) (branch .0) ≡ true → Branch-fits (now graph) (now form) (branch .0)) ⌝ }
-    ensures { λ r. ⌜ Wrote (now (out .entry)) at (edge-lines (seen (now (graph .entry)) (now (form .entry))) (branch .0)) (now (out .exit)) r ⌝ }
-    ensures { λ r. ⌜ r ≤ at + limits .dests * line-most ⌝ }
+    requires at_bound { (at < 2 ^ 57) × (branch.0 < limits.blocks) }
+    requires long { Long graph.now form.now }
+    requires branch_fits { branches graph.now branch.0 ≡ true → BranchFits graph.now form.now branch.0 }
+    ensures wrote { Wrote out.old at (edge_lines (seen graph.now form.now) branch.0) out.new result }
+    ensures upper_bound { result ≤ at + limits.dests * line_most }
 {
     let b = branch.0 as usize;
     if graph[layout::BRANCHES + b] == 0 {
@@ -72,11 +68,11 @@ fn put_branch(out: &mut [u8], at: usize, graph: &[u32], form: &[u32], branch: Br
 }
 
 fn put_branches(out: &mut [u8], at: usize, graph: &[u32], form: &[u32]) -> usize
-    requires { ⌜ at < 2 ^ 56 ⌝ }
-    requires { ⌜ Long (now graph) (now form) × Drawable (now graph) (now form) ⌝ }
-    ensures { λ r. ⌜ Wrote (now (out .entry)) at
-        (each (edge-lines (seen (now (graph .entry)) (now (form .entry)))) (upFrom 0 (blocks (now (graph .entry))))) (now (out .exit)) r ⌝ }
-    ensures { λ r. ⌜ r ≤ at + limits .blocks * (limits .dests * line-most) ⌝ }
+    requires at_bound { at < 2 ^ 56 }
+    requires long { Long graph.now form.now × Drawable graph.now form.now }
+    ensures wrote { Wrote out.old at
+        (each (edge_lines (seen graph.now form.now)) (up_from 0 (blocks graph.now))) out.new result }
+    ensures upper_bound { result ≤ at + limits.blocks * (limits.dests * line_most) }
 {
     let blocks = graph[layout::BLOCK_COUNT];
     let mut a = at;
@@ -90,8 +86,8 @@ fn put_branches(out: &mut [u8], at: usize, graph: &[u32], form: &[u32]) -> usize
 
 // From the buffer's start on.
 pub fn put_text(out: &mut [u8], graph: &[u32], form: &[u32]) -> usize
-    requires { ⌜ Long (now graph) (now form) × Drawable (now graph) (now form) ⌝ }
-    ensures { λ r. ⌜ Wrote (now (out .entry)) 0 (text (seen (now (graph .entry)) (now (form .entry)))) (now (out .exit)) r ⌝ }
+    requires { Long graph.now form.now × Drawable graph.now form.now }
+    ensures { Wrote out.old 0 (text (seen graph.now form.now)) out.new result }
 {
     let a = put(out, 0, b"digraph f {\n");
     let b = put_blocks(out, a, graph, form);

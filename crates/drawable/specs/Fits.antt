@@ -1,66 +1,63 @@
 -- Where the lent cells have what is drawn, whatever they hold, and whether it can be drawn.
 -- Assumes nothing.
-use Prim.Native.Nat.{ℕ, _+_, _*_}
-use mathlib.Core.Bool.{Bool, not, _&&_, _||_}
-use mathlib.Core.List.{List}
-use lib.ListN.{getD}
-use Rattle·entity.specs.Limits.{limits, value-room, param-room}
-use Rattle·definition.specs.Base.{_=?_, _<?_, _≤?_, every, upFrom}
-use Rattle·layout.specs.Cells.{base}
-use Rattle·layout.specs.Layout.{dest-row, param-row, graph-sizes, form-sizes}
-use Rattle·layout.specs.Rows.{entries}
+use Rattle.std.specs.Prelude.{ℕ, ◌+◌, ◌*◌, Bool, not, ◌&&◌, ◌||◌, List, get_or}
+use Rattle.entity.specs.Limits.{limits, value_room, param_room}
+use Rattle.definition.specs.Base.{◌=?◌, ◌<?◌, ◌≤?◌, every, up_from}
+use Rattle.layout.specs.Cells.{base}
+use Rattle.layout.specs.Layout.{dest_row, param_row, graph_sizes, form_sizes}
+use Rattle.layout.specs.Rows.{entries}
 
 -- which tables are drawn: of the graph's the branch marks and the destinations, of the form's the parameters and the arguments
-abbrev pub mark-table : ℕ
-mark-table = 2
+abbrev pub mark_table : ℕ
+mark_table = 2
 
-abbrev pub dest-table : ℕ
-dest-table = 6
+abbrev pub dest_table : ℕ
+dest_table = 6
 
-abbrev pub param-table : ℕ
-param-table = 7
+abbrev pub param_table : ℕ
+param_table = 7
 
-abbrev pub arg-table : ℕ
-arg-table = 11
+abbrev pub arg_table : ℕ
+arg_table = 11
 
 -- the cells of the counts of block b's parameters, of its branch's destinations, and of its branch's arguments at destination i
-abbrev pub params-at : ℕ → ℕ
-params-at b = base form-sizes param-table + b * param-row
+abbrev pub params_at : ℕ → ℕ
+params_at b = base form_sizes param_table + b * param_row
 
-abbrev pub dests-at : ℕ → ℕ
-dests-at b = base graph-sizes dest-table + b * dest-row
+abbrev pub dests_at : ℕ → ℕ
+dests_at b = base graph_sizes dest_table + b * dest_row
 
-abbrev pub args-at : ℕ → ℕ → ℕ
-args-at b i = base form-sizes arg-table + (b * limits .dests + i) * param-row
+abbrev pub args_at : ℕ → ℕ → ℕ
+args_at b i = base form_sizes arg_table + (b * limits.dests + i) * param_row
 
 -- the row at a has no more entries than the room, and each is below n
-unfoldable pub row-fits : ℕ → ℕ → List ℕ → ℕ → Bool
-row-fits room n cells a = getD cells a 0 ≤? room && every (λ x. x <? n) (entries cells a)
+unfoldable pub row_fits : ℕ → ℕ → List ℕ → ℕ → Bool
+row_fits room n cells a = get_or cells a 0 ≤? room && every (λ x. x <? n) (entries cells a)
 
 -- how many blocks, and how many values there are
 abbrev pub blocks : List ℕ → ℕ
-blocks graph = getD graph (base graph-sizes 0) 0
+blocks graph = get_or graph (base graph_sizes 0) 0
 
 abbrev pub values : List ℕ → ℕ
-values form = getD form (base form-sizes 0) 0
+values form = get_or form (base form_sizes 0) 0
 
 -- has block b a branch?
 abbrev pub branches : List ℕ → ℕ → Bool
-branches graph b = not (getD graph (base graph-sizes mark-table + b) 0 =? 0)
+branches graph b = not (get_or graph (base graph_sizes mark_table + b) 0 =? 0)
 
 -- the arguments of b's branch at destination i are few enough, and values
-abbrev pub args-fit : List ℕ → ℕ → ℕ → Bool
-args-fit form b i = row-fits (param-room limits) (values form) form (args-at b i)
+abbrev pub args_fit : List ℕ → ℕ → ℕ → Bool
+args_fit form b i = row_fits (param_room limits) (values form) form (args_at b i)
 
 module _ (graph form : List ℕ) where
   -- the destinations of b's branch are few enough, and blocks; and so are the arguments at each
-  unfoldable pub branch-fits : ℕ → Bool
-  branch-fits b = row-fits (limits .dests) (blocks graph) graph (dests-at b) && every (args-fit form b) (upFrom 0 (getD graph (dests-at b) 0))
+  unfoldable pub branch_fits : ℕ → Bool
+  branch_fits b = row_fits limits.dests (blocks graph) graph (dests_at b) && every (args_fit form b) (up_from 0 (get_or graph (dests_at b) 0))
 
   -- b's parameters are few enough, and values; and if it has a branch, that fits
-  unfoldable pub block-fits : ℕ → Bool
-  block-fits b = row-fits (param-room limits) (values form) form (params-at b) && (not (branches graph b) || branch-fits b)
+  unfoldable pub block_fits : ℕ → Bool
+  block_fits b = row_fits (param_room limits) (values form) form (params_at b) && (not (branches graph b) || branch_fits b)
 
   -- Can the picture be drawn? Blocks that are not declared are not looked at.
   unfoldable pub drawable : Bool
-  drawable = blocks graph ≤? limits .blocks && values form ≤? value-room limits && every block-fits (upFrom 0 (blocks graph))
+  drawable = blocks graph ≤? limits.blocks && values form ≤? value_room limits && every block_fits (up_from 0 (blocks graph))

@@ -1,13 +1,13 @@
 // Can the tables be drawn? Every count that the drawing reads is tested against its limit, and every number against its count.
-ghost use mathlib.Core.Path.{_≡_};
-ghost use Prim.Native.Nat.{_+_, _<_, _≤_};
-ghost use lib.ListN.{length};
-ghost use Rattle·entity.specs.Limits.{limits, zero-room, form-need};
-ghost use Rattle·definition.specs.Base.{_<?_, every, upFrom};
-ghost use Rattle·drawable·specs.specs.Fits.{row-fits, args-fit, branch-fits, block-fits, drawable};
-ghost use Rattle·drawable·specs.specs.Drawable.{Long};
-use entity::Block;
-use entity::Branch;
+#![tactic(auto)]
+
+ghost use Rattle.std.specs.Prelude.{◌≡◌, ◌+◌, ◌<◌, ◌≤◌, length};
+ghost use Rattle.entity.specs.Limits.{limits, zero_room, form_need};
+ghost use Rattle.definition.specs.Base.{◌<?◌, every, up_from};
+ghost use Rattle.drawable.specs.Fits.{row_fits, args_fit, branch_fits, block_fits, drawable};
+ghost use Rattle.drawable.specs.Drawable.{Long};
+
+use entity::{Block, Branch};
 
 pub mod cells;
 
@@ -15,7 +15,7 @@ const PARAM_ROOM: u32 = entity::PARAM_ROOM as u32;
 
 // Is each of them below n?
 fn below(xs: &[u32], n: u32) -> bool
-    ensures { λ r. ⌜ r ≡ every (λ x. x <? n) (now (xs .entry)) ⌝ }
+    ensures { result ≡ every (λ x. x <? n) xs.now }
 {
     let mut i = 0;
     while i < xs.len() {
@@ -29,8 +29,8 @@ fn below(xs: &[u32], n: u32) -> bool
 
 // Has the row at most as many entries as its room, each below n?
 fn row_fits(room: u32, n: u32, row: &[u32], at: usize) -> bool
-    requires { ⌜ (at + room < length (now row)) × (room ≤ zero-room limits) ⌝ }
-    ensures { λ r. ⌜ r ≡ row-fits room n (now (row .entry)) at ⌝ }
+    requires { (at + room < length row.now) × (room ≤ zero_room limits) }
+    ensures { result ≡ row_fits room n row.now at }
 {
     if room < row[at] {
         return false;
@@ -40,8 +40,8 @@ fn row_fits(room: u32, n: u32, row: &[u32], at: usize) -> bool
 
 // Do the arguments of the branch's destinations, so many, fit?
 fn args_fit(form: &[u32], branch: Branch, count: u32) -> bool
-    requires { ⌜ (count ≤ limits .dests) × (branch .0 < limits .blocks) × (form-need limits ≤ length (now form)) ⌝ }
-    ensures { λ r. ⌜ r ≡ every (args-fit (now (form .entry)) (branch .0)) (upFrom 0 count) ⌝ }
+    requires { (count ≤ limits.dests) × (branch.0 < limits.blocks) × (form_need limits ≤ length form.now) }
+    ensures { result ≡ every (args_fit form.now branch.0) (up_from 0 count) }
 {
     let values = form[layout::VALUE_COUNT];
     let mut i: u32 = 0;
@@ -55,9 +55,9 @@ fn args_fit(form: &[u32], branch: Branch, count: u32) -> bool
 }
 
 fn branch_fits(graph: &[u32], form: &[u32], branch: Branch) -> bool
-    requires { ⌜ Long (now graph) (now form) ⌝ }
-    requires { ⌜ branch .0 < limits .blocks ⌝ }
-    ensures { λ r. ⌜ r ≡ branch-fits (now (graph .entry)) (now (form .entry)) (branch .0) ⌝ }
+    requires long { Long graph.now form.now }
+    requires branch_lt_blocks { branch.0 < limits.blocks }
+    ensures { result ≡ branch_fits graph.now form.now branch.0 }
 {
     let at = cells::dests_at(branch);
     if !row_fits(entity::DESTS, graph[layout::BLOCK_COUNT], graph, at) {
@@ -67,9 +67,9 @@ fn branch_fits(graph: &[u32], form: &[u32], branch: Branch) -> bool
 }
 
 fn block_fits(graph: &[u32], form: &[u32], block: Block) -> bool
-    requires { ⌜ Long (now graph) (now form) ⌝ }
-    requires { ⌜ block .0 < limits .blocks ⌝ }
-    ensures { λ r. ⌜ r ≡ block-fits (now (graph .entry)) (now (form .entry)) (block .0) ⌝ }
+    requires long { Long graph.now form.now }
+    requires block_lt_blocks { block.0 < limits.blocks }
+    ensures { result ≡ block_fits graph.now form.now block.0 }
 {
     let values = form[layout::VALUE_COUNT];
     let b = block.0 as usize;
@@ -83,8 +83,8 @@ fn block_fits(graph: &[u32], form: &[u32], block: Block) -> bool
 }
 
 pub fn drawable(graph: &[u32], form: &[u32]) -> bool
-    requires { ⌜ Long (now graph) (now form) ⌝ }
-    ensures { λ r. ⌜ r ≡ drawable (now (graph .entry)) (now (form .entry)) ⌝ }
+    requires { Long graph.now form.now }
+    ensures { result ≡ drawable graph.now form.now }
 {
     let blocks = graph[layout::BLOCK_COUNT];
     if entity::BLOCKS < blocks {

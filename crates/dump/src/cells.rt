@@ -1,8 +1,6 @@
 // Every read of a lent cell that printing makes. Each goes through `raw`, which answers 0 past the end, so that no count and no offset can lead astray.
-use entity::Described;
-use entity::Type;
-use phrases::say::Numbers;
-use phrases::say::three;
+use entity::{Described, Type};
+use phrases::say::{Numbers, three};
 
 const BLOCKS: usize = entity::BLOCKS as usize;
 

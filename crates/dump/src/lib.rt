@@ -1,31 +1,38 @@
 // What a session leaves, line by line: in letters, for programs, or in words, for people. A new table takes a function here and two texts in `phrases`.
-use crate::cells::cell;
-use crate::cells::entry;
+#![tactic(auto)]
+
+use crate::cells::{cell, entry};
 use form::ZERO;
 use phrases::out::byte;
-use phrases::say;
-use phrases::say::Numbers;
-use phrases::say::one;
-use phrases::say::two;
-use phrases::texts;
+use phrases::say::{Numbers, one, two};
 use phrases::texts::line;
+use phrases::{say, texts};
 
 mod cells;
 
 // The entries of the row that starts at `at`, and the line's end.
-fn row(out: &mut [u8], n: usize, in_words: bool, t: &[u32], at: usize, each: usize) -> usize {
+fn row<R: Print + Eprint>(
+    rt: &R,
+    out: &mut [u8],
+    n: usize,
+    in_words: bool,
+    t: &[u32],
+    at: usize,
+    each: usize,
+) -> usize {
     let k = cell(t, at, 0);
     let mut m = n;
     let mut i: usize = 0;
     while i < k {
-        m = line(out, m, in_words, each, one(entry(t, at, i)));
+        m = line(rt, out, m, in_words, each, one(entry(t, at, i)));
         i += 1;
     }
-    byte(out, m, b'\n')
+    byte(rt, out, m, b'\n')
 }
 
 // A line with the row's entries, of block i. In words an empty row has none.
-fn list(
+fn list<R: Print + Eprint>(
+    rt: &R,
     out: &mut [u8],
     n: usize,
     in_words: bool,
@@ -38,21 +45,22 @@ fn list(
     if in_words && cell(t, at, 0) == 0 {
         return n;
     }
-    let m = line(out, n, in_words, which, one(i));
-    row(out, m, in_words, t, at, each)
+    let m = line(rt, out, n, in_words, which, one(i));
+    row(rt, out, m, in_words, t, at, each)
 }
 
 // What a call asks and is answered, in words.
-fn told(out: &mut [u8], n: usize, code: usize, x: Numbers) -> usize {
+fn told<R: Print + Eprint>(rt: &R, out: &mut [u8], n: usize, code: usize, x: Numbers) -> usize {
     let kind = x.a;
-    let m = texts::asked(out, n, kind, x);
+    let m = texts::asked(rt, out, n, kind, x);
     if code == 0 {
-        return texts::answered(out, m, kind, x);
+        return texts::answered(rt, out, m, kind, x);
     }
-    texts::reason(out, m, code, one(code))
+    texts::reason(rt, out, m, code, one(code))
 }
 
-fn answer(
+fn answer<R: Print + Eprint>(
+    rt: &R,
     out: &mut [u8],
     n: usize,
     in_words: bool,
@@ -63,16 +71,24 @@ fn answer(
 ) -> usize {
     let x = cells::call(calls, numbers, i);
     let code = cell(codes, 0, i);
-    let m = line(out, n, in_words, texts::ANSWER, say::three(i, code, x.e));
+    let m = line(
+        rt,
+        out,
+        n,
+        in_words,
+        texts::ANSWER,
+        say::three(i, code, x.e),
+    );
     if !in_words {
         return m;
     }
-    let k = told(out, m, code, x);
-    byte(out, k, b'\n')
+    let k = told(rt, out, m, code, x);
+    byte(rt, out, k, b'\n')
 }
 
 // A line for each of the first k calls.
-fn answers(
+fn answers<R: Print + Eprint>(
+    rt: &R,
     out: &mut [u8],
     n: usize,
     in_words: bool,
@@ -84,62 +100,91 @@ fn answers(
     let mut m = n;
     let mut i: usize = 0;
     while i < k {
-        m = answer(out, m, in_words, calls, codes, numbers, i);
+        m = answer(rt, out, m, in_words, calls, codes, numbers, i);
         i += 1;
     }
     m
 }
 
-fn value_in_words(out: &mut [u8], n: usize, x: Numbers) -> usize {
-    let m = texts::sort(out, n, x.b, x);
+fn value_in_words<R: Print + Eprint>(rt: &R, out: &mut [u8], n: usize, x: Numbers) -> usize {
+    let m = texts::sort(rt, out, n, x.b, x);
     if x.a == x.e {
-        return byte(out, m, b'\n');
+        return byte(rt, out, m, b'\n');
     }
-    texts::words(out, m, texts::VALUE, x)
+    texts::words(rt, out, m, texts::VALUE, x)
 }
 
 // The bits that value i holds, if it is a zero.
-fn bits(out: &mut [u8], n: usize, in_words: bool, form: &[u32], i: usize) -> usize {
+fn bits<R: Print + Eprint>(
+    rt: &R,
+    out: &mut [u8],
+    n: usize,
+    in_words: bool,
+    form: &[u32],
+    i: usize,
+) -> usize {
     let x = cells::bits(form, i);
     if x.b == ZERO as usize {
-        return line(out, n, in_words, texts::BITS, x);
+        return line(rt, out, n, in_words, texts::BITS, x);
     }
     n
 }
 
 // What value i is, or its bits.
-fn value(out: &mut [u8], n: usize, in_words: bool, form: &[u32], i: usize, which: usize) -> usize {
+fn value<R: Print + Eprint>(
+    rt: &R,
+    out: &mut [u8],
+    n: usize,
+    in_words: bool,
+    form: &[u32],
+    i: usize,
+    which: usize,
+) -> usize {
     if which == texts::BITS {
-        return bits(out, n, in_words, form, i);
+        return bits(rt, out, n, in_words, form, i);
     }
     let x = cells::value(form, i);
     if in_words {
-        return value_in_words(out, n, x);
+        return value_in_words(rt, out, n, x);
     }
-    line(out, n, in_words, which, x)
+    line(rt, out, n, in_words, which, x)
 }
 
-fn values(out: &mut [u8], n: usize, in_words: bool, form: &[u32], which: usize) -> usize {
+fn values<R: Print + Eprint>(
+    rt: &R,
+    out: &mut [u8],
+    n: usize,
+    in_words: bool,
+    form: &[u32],
+    which: usize,
+) -> usize {
     let k = cells::value_count(form);
     let mut m = n;
     let mut i: usize = 0;
     while i < k {
-        m = value(out, m, in_words, form, i, which);
+        m = value(rt, out, m, in_words, form, i, which);
         i += 1;
     }
     m
 }
 
 // In words a text stands before the arguments, if there are any.
-fn with(out: &mut [u8], n: usize, in_words: bool, count: usize) -> usize {
+fn with<R: Print + Eprint>(
+    rt: &R,
+    out: &mut [u8],
+    n: usize,
+    in_words: bool,
+    count: usize,
+) -> usize {
     if in_words && 0 < count {
-        return texts::words(out, n, texts::WITH, one(count));
+        return texts::words(rt, out, n, texts::WITH, one(count));
     }
     n
 }
 
 // Destination j of block i, with its arguments.
-fn destination(
+fn destination<R: Print + Eprint>(
+    rt: &R,
     out: &mut [u8],
     n: usize,
     in_words: bool,
@@ -150,13 +195,14 @@ fn destination(
 ) -> usize {
     let x = cells::dest(graph, i, j);
     let at = cells::arg_row(i, j);
-    let m = line(out, n, in_words, texts::DEST, x);
-    let k = with(out, m, in_words, cell(form, at, 0));
-    row(out, k, in_words, form, at, texts::VALUE_NUMBER)
+    let m = line(rt, out, n, in_words, texts::DEST, x);
+    let k = with(rt, out, m, in_words, cell(form, at, 0));
+    row(rt, out, k, in_words, form, at, texts::VALUE_NUMBER)
 }
 
 // The first k destinations of block i.
-fn destinations(
+fn destinations<R: Print + Eprint>(
+    rt: &R,
     out: &mut [u8],
     n: usize,
     in_words: bool,
@@ -168,21 +214,29 @@ fn destinations(
     let mut m = n;
     let mut j: usize = 0;
     while j < k {
-        m = destination(out, m, in_words, graph, form, i, j);
+        m = destination(rt, out, m, in_words, graph, form, i, j);
         j += 1;
     }
     m
 }
 
 // In words a branch of k destinations is told by them, if it has any.
-fn branch_itself(out: &mut [u8], n: usize, in_words: bool, i: usize, k: usize) -> usize {
+fn branch_itself<R: Print + Eprint>(
+    rt: &R,
+    out: &mut [u8],
+    n: usize,
+    in_words: bool,
+    i: usize,
+    k: usize,
+) -> usize {
     if in_words && 0 < k {
         return n;
     }
-    line(out, n, in_words, texts::BRANCH, two(i, k))
+    line(rt, out, n, in_words, texts::BRANCH, two(i, k))
 }
 
-fn branch(
+fn branch<R: Print + Eprint>(
+    rt: &R,
     out: &mut [u8],
     n: usize,
     in_words: bool,
@@ -194,21 +248,30 @@ fn branch(
         return n;
     }
     let k = cell(graph, cells::dest_row(i), 0);
-    let m = branch_itself(out, n, in_words, i, k);
-    destinations(out, m, in_words, graph, form, i, k)
+    let m = branch_itself(rt, out, n, in_words, i, k);
+    destinations(rt, out, m, in_words, graph, form, i, k)
 }
 
 // What block i records last for variable j.
-fn definition(out: &mut [u8], n: usize, in_words: bool, form: &[u32], i: usize, j: usize) -> usize {
+fn definition<R: Print + Eprint>(
+    rt: &R,
+    out: &mut [u8],
+    n: usize,
+    in_words: bool,
+    form: &[u32],
+    i: usize,
+    j: usize,
+) -> usize {
     let x = cells::definition(form, i, j);
     if x.c == 0 {
         return n;
     }
-    line(out, n, in_words, texts::DEFINITION, x)
+    line(rt, out, n, in_words, texts::DEFINITION, x)
 }
 
 // Of the first k variables.
-fn definitions(
+fn definitions<R: Print + Eprint>(
+    rt: &R,
     out: &mut [u8],
     n: usize,
     in_words: bool,
@@ -219,24 +282,32 @@ fn definitions(
     let mut m = n;
     let mut j: usize = 0;
     while j < k {
-        m = definition(out, m, in_words, form, i, j);
+        m = definition(rt, out, m, in_words, form, i, j);
         j += 1;
     }
     m
 }
 
-fn sealed(out: &mut [u8], n: usize, in_words: bool, graph: &[u32], i: usize) -> usize {
+fn sealed<R: Print + Eprint>(
+    rt: &R,
+    out: &mut [u8],
+    n: usize,
+    in_words: bool,
+    graph: &[u32],
+    i: usize,
+) -> usize {
     let x = cell(graph, layout::SEALED, i);
     let which = if x == 0 {
         texts::UNSEALED
     } else {
         texts::SEALED
     };
-    line(out, n, in_words, which, two(i, x))
+    line(rt, out, n, in_words, which, two(i, x))
 }
 
 // Block i's predecessors, its pending variables, and whether it is sealed.
-fn entries(
+fn entries<R: Print + Eprint>(
+    rt: &R,
     out: &mut [u8],
     n: usize,
     in_words: bool,
@@ -245,9 +316,20 @@ fn entries(
     i: usize,
 ) -> usize {
     let at = cells::pred_row(i);
-    let m = list(out, n, in_words, graph, at, i, texts::PREDS, texts::NUMBER);
+    let m = list(
+        rt,
+        out,
+        n,
+        in_words,
+        graph,
+        at,
+        i,
+        texts::PREDS,
+        texts::NUMBER,
+    );
     let pending = cells::wait_row(i);
     let k = list(
+        rt,
         out,
         m,
         in_words,
@@ -257,12 +339,21 @@ fn entries(
         texts::PENDING,
         texts::NUMBER,
     );
-    sealed(out, k, in_words, graph, i)
+    sealed(rt, out, k, in_words, graph, i)
 }
 
-fn block(out: &mut [u8], n: usize, in_words: bool, graph: &[u32], form: &[u32], i: usize) -> usize {
+fn block<R: Print + Eprint>(
+    rt: &R,
+    out: &mut [u8],
+    n: usize,
+    in_words: bool,
+    graph: &[u32],
+    form: &[u32],
+    i: usize,
+) -> usize {
     let at = cells::param_row(layout::PARAMS, i);
     let mut m = list(
+        rt,
         out,
         n,
         in_words,
@@ -272,80 +363,127 @@ fn block(out: &mut [u8], n: usize, in_words: bool, graph: &[u32], form: &[u32], 
         texts::PARAMS,
         texts::VALUE_NUMBER,
     );
-    m = branch(out, m, in_words, graph, form, i);
-    m = entries(out, m, in_words, graph, form, i);
-    definitions(out, m, in_words, form, i, cells::variable_count(graph))
+    m = branch(rt, out, m, in_words, graph, form, i);
+    m = entries(rt, out, m, in_words, graph, form, i);
+    definitions(rt, out, m, in_words, form, i, cells::variable_count(graph))
 }
 
-fn blocks(out: &mut [u8], n: usize, in_words: bool, graph: &[u32], form: &[u32]) -> usize {
+fn blocks<R: Print + Eprint>(
+    rt: &R,
+    out: &mut [u8],
+    n: usize,
+    in_words: bool,
+    graph: &[u32],
+    form: &[u32],
+) -> usize {
     let k = cells::block_count(graph);
     let mut m = n;
     let mut i: usize = 0;
     while i < k {
-        m = block(out, m, in_words, graph, form, i);
+        m = block(rt, out, m, in_words, graph, form, i);
         i += 1;
     }
     m
 }
 
-fn zeros(out: &mut [u8], n: usize, in_words: bool, form: &[u32]) -> usize {
+fn zeros<R: Print + Eprint>(
+    rt: &R,
+    out: &mut [u8],
+    n: usize,
+    in_words: bool,
+    form: &[u32],
+) -> usize {
     let k = cells::zero_count(form);
     let mut m = n;
     let mut i: usize = 0;
     while i < k {
-        m = line(out, m, in_words, texts::ZERO, cells::zero(form, i));
+        m = line(rt, out, m, in_words, texts::ZERO, cells::zero(form, i));
         i += 1;
     }
     m
 }
 
-fn mark(out: &mut [u8], n: usize, in_words: bool, graph: &[u32], i: usize) -> usize {
+fn mark<R: Print + Eprint>(
+    rt: &R,
+    out: &mut [u8],
+    n: usize,
+    in_words: bool,
+    graph: &[u32],
+    i: usize,
+) -> usize {
     if !cells::is_marked(graph, i) {
         return n;
     }
-    line(out, n, in_words, texts::MARK, one(i))
+    line(rt, out, n, in_words, texts::MARK, one(i))
 }
 
 // The variables marked for stack maps. In words each has a line of its own.
-fn marks(out: &mut [u8], n: usize, in_words: bool, graph: &[u32]) -> usize {
+fn marks<R: Print + Eprint>(
+    rt: &R,
+    out: &mut [u8],
+    n: usize,
+    in_words: bool,
+    graph: &[u32],
+) -> usize {
     let k = cells::variable_count(graph);
-    let mut m = line(out, n, in_words, texts::MARKS, one(0));
+    let mut m = line(rt, out, n, in_words, texts::MARKS, one(0));
     let mut i: usize = 0;
     while i < k {
-        m = mark(out, m, in_words, graph, i);
+        m = mark(rt, out, m, in_words, graph, i);
         i += 1;
     }
-    line(out, m, in_words, texts::STOP, one(0))
+    line(rt, out, m, in_words, texts::STOP, one(0))
 }
 
-fn record(out: &mut [u8], n: usize, in_words: bool, form: &[u32], i: usize) -> usize {
+fn record<R: Print + Eprint>(
+    rt: &R,
+    out: &mut [u8],
+    n: usize,
+    in_words: bool,
+    form: &[u32],
+    i: usize,
+) -> usize {
     if !cells::is_recorded(form, i) {
         return n;
     }
-    line(out, n, in_words, texts::RECORD, one(i))
+    line(rt, out, n, in_words, texts::RECORD, one(i))
 }
 
 // The values recorded for them, likewise.
-fn records(out: &mut [u8], n: usize, in_words: bool, form: &[u32]) -> usize {
+fn records<R: Print + Eprint>(
+    rt: &R,
+    out: &mut [u8],
+    n: usize,
+    in_words: bool,
+    form: &[u32],
+) -> usize {
     let k = cells::value_count(form);
-    let mut m = line(out, n, in_words, texts::RECORDS, one(0));
+    let mut m = line(rt, out, n, in_words, texts::RECORDS, one(0));
     let mut i: usize = 0;
     while i < k {
-        m = record(out, m, in_words, form, i);
+        m = record(rt, out, m, in_words, form, i);
         i += 1;
     }
-    line(out, m, in_words, texts::STOP, one(0))
+    line(rt, out, m, in_words, texts::STOP, one(0))
 }
 
 // The tables, one after the other.
-fn tables(out: &mut [u8], n: usize, in_words: bool, graph: &[u32], form: &[u32]) -> usize {
-    let mut m = values(out, n, in_words, form, texts::VALUE);
-    m = values(out, m, in_words, form, texts::BITS);
-    m = blocks(out, m, in_words, graph, form);
-    m = zeros(out, m, in_words, form);
-    m = marks(out, m, in_words, graph);
-    m = records(out, m, in_words, form);
+fn tables<R: Print + Eprint>(
+    rt: &R,
+    out: &mut [u8],
+    n: usize,
+    in_words: bool,
+    graph: &[u32],
+    form: &[u32],
+) -> usize {
+    let mut m = values(rt, out, n, in_words, form, texts::VALUE);
+    m = values(rt, out, m, in_words, form, texts::BITS);
+    m = blocks(rt, out, m, in_words, graph, form);
+    m = zeros(rt, out, m, in_words, form);
+    m = marks(rt, out, m, in_words, graph);
+    m = records(rt, out, m, in_words, form);
     list(
+        rt,
         out,
         m,
         in_words,
@@ -358,19 +496,21 @@ fn tables(out: &mut [u8], n: usize, in_words: bool, graph: &[u32], form: &[u32])
 }
 
 // A list that was not run: its answer is all there is to tell.
-pub fn refused(out: &mut [u8], n: usize, in_words: bool) -> usize {
+pub fn refused<R: Print + Eprint>(rt: &R, out: &mut [u8], n: usize, in_words: bool) -> usize {
     let m = line(
+        rt,
         out,
         n,
         in_words,
         texts::REFUSED,
         two(2, entity::CALLS as usize),
     );
-    line(out, m, in_words, texts::END, one(0))
+    line(rt, out, m, in_words, texts::END, one(0))
 }
 
 // A session of k calls that was run.
-pub fn dump(
+pub fn dump<R: Print + Eprint>(
+    rt: &R,
     out: &mut [u8],
     n: usize,
     in_words: bool,
@@ -381,9 +521,16 @@ pub fn dump(
     graph: &[u32],
     form: &[u32],
 ) -> usize {
-    let mut m = line(out, n, in_words, texts::RUN, two(0, k));
-    m = line(out, m, in_words, texts::COUNTS, cells::counts(graph, form));
-    m = answers(out, m, in_words, calls, codes, numbers, k);
-    m = tables(out, m, in_words, graph, form);
-    line(out, m, in_words, texts::END, one(0))
+    let mut m = line(rt, out, n, in_words, texts::RUN, two(0, k));
+    m = line(
+        rt,
+        out,
+        m,
+        in_words,
+        texts::COUNTS,
+        cells::counts(graph, form),
+    );
+    m = answers(rt, out, m, in_words, calls, codes, numbers, k);
+    m = tables(rt, out, m, in_words, graph, form);
+    line(rt, out, m, in_words, texts::END, one(0))
 }

@@ -1,15 +1,10 @@
 -- The types, a line each: what a lane holds and how many there are. Width, steps of a zero and bits of the unset value follow from that by one rule each.
 -- Assumes nothing.
-use Prim.Native.Nat.{ℕ, zero, suc, _+_, _-_, _*_, _/_, _%_, _^_}
-use mathlib.Core.Path.{_≡_}
-use mathlib.Core.Bool.{Bool, true, false, cond}
-use mathlib.Core.Option.{Option, none, some}
-use mathlib.Core.List.{List, [], _∷_}
-use lib.Dec.{ltb, leb}
-use lib.ListN.{length, getD}
-use Rattle·entity·specs.specs.declared.Type.{«Type»}
-use Rattle·entity·specs.specs.declared.Found.{Found}
-use Rattle·entity·specs.specs.declared.Shape.{Shape}
+use Rattle.std.specs.Prelude.{ℕ, zero, suc, ◌+◌, ◌-◌, ◌*◌, ◌/◌, ◌%◌, ◌^◌}
+use Rattle.std.specs.Prelude.{◌≡◌, cond, List, [], ◌∷◌, ltb, leb, length, get_or}
+use Rattle.std.proofs.Math.Option.{Option, none, some}
+use Rattle.entity.specs.declared.Found.{Found}
+use Rattle.entity.specs.declared.Shape.{Shape}
 
 -- an integer of so many bits; a float with so many bits of exponent and of fraction, below its sign
 pub data Lane : Type 0 where
@@ -76,97 +71,97 @@ types =
     ∷ vector f64 2  -- 24 F64X2
     ∷ []
 
-abbrev pub type-count : ℕ
-type-count = length types
+abbrev pub type_count : ℕ
+type_count = length types
 
 -- ---- each fact by the type's number; a number that names no type has no lane
 
-abbrev pub kind-of : ℕ → Kind
-kind-of n = getD types n (vector i8 0)
+abbrev pub kind_of : ℕ → Kind
+kind_of n = get_or types n (vector i8 0)
 
 -- the number of the lane's type
-abbrev pub lane-in : ℕ → Kind → ℕ
-lane-in n (scalar l) = n
-lane-in n (vector l k) = l
+abbrev pub lane_in : ℕ → Kind → ℕ
+lane_in n (scalar l) = n
+lane_in n (vector l k) = l
 
-abbrev pub lane-of : ℕ → ℕ
-lane-of n = lane-in n (kind-of n)
+abbrev pub lane_of : ℕ → ℕ
+lane_of n = lane_in n (kind_of n)
 
-abbrev pub lanes-in : Kind → ℕ
-lanes-in (scalar l) = 1
-lanes-in (vector l k) = k
+abbrev pub lanes_in : Kind → ℕ
+lanes_in (scalar l) = 1
+lanes_in (vector l k) = k
 
-abbrev pub lanes-of : ℕ → ℕ
-lanes-of n = lanes-in (kind-of n)
+abbrev pub lanes_of : ℕ → ℕ
+lanes_of n = lanes_in (kind_of n)
 
 -- what a lane holds
-abbrev pub scalar-in : Kind → Lane
-scalar-in (scalar l) = l
-scalar-in (vector l k) = integer 0
+abbrev pub scalar_in : Kind → Lane
+scalar_in (scalar l) = l
+scalar_in (vector l k) = integer 0
 
-abbrev pub held-of : ℕ → Lane
-held-of n = scalar-in (kind-of (lane-of n))
+abbrev pub held_of : ℕ → Lane
+held_of n = scalar_in (kind_of (lane_of n))
 
-abbrev pub lane-bits : Lane → ℕ
-lane-bits (integer w) = w
-lane-bits (float e f) = 1 + e + f
+abbrev pub lane_bits : Lane → ℕ
+lane_bits (integer w) = w
+lane_bits (float e f) = 1 + e + f
 
 -- in bytes
-abbrev pub width-of : ℕ → ℕ
-width-of n = lanes-of n * lane-bits (held-of n) / 8
+abbrev pub width_of : ℕ → ℕ
+width_of n = lanes_of n * lane_bits (held_of n) / 8
 
--- The unset value: what a variable of the type holds where it has received nothing. An integer's bits are all clear. A float's are a quiet NaN, so that it shows:
--- the sign is clear, the exponent all ones, and of the fraction only the top bit is set.
-abbrev pub unset-lane : Lane → ℕ
-unset-lane (integer w) = 0
-unset-lane (float e f) = (2 ^ e - 1) * 2 ^ f + 2 ^ (f - 1)
+-- The unset value: what a variable of the type holds where it has received nothing. An integer's bits are all clear. A float's are a quiet NaN, so that it
+-- shows: the sign is clear, the exponent all ones, and of the fraction only the top bit is set.
+abbrev pub unset_lane : Lane → ℕ
+unset_lane (integer w) = 0
+unset_lane (float e f) = (2 ^ e - 1) * 2 ^ f + 2 ^ (f - 1)
 
 -- k lanes of w bits, each holding x
 abbrev pub repeated : ℕ → ℕ → ℕ → ℕ
 repeated zero w x = 0
 repeated (suc k) w x = repeated k w x * 2 ^ w + x
 
-abbrev pub unset-of : ℕ → ℕ
-unset-of n = repeated (lanes-of n) (lane-bits (held-of n)) (unset-lane (held-of n))
+abbrev pub unset_of : ℕ → ℕ
+unset_of n = repeated (lanes_of n) (lane_bits (held_of n)) (unset_lane (held_of n))
 
 -- The type of the first of a zero's two steps, if it has two: there is no constant of an integer of more than 64 bits, which is widened, nor of a vector of
 -- floats, which is filled with a scalar.
-abbrev pub step-in : ℕ → ℕ → Lane → Option ℕ
-step-in l k (integer w) = cond (leb w 64) none (some i64)
-step-in l k (float e f) = cond (leb k 1) none (some l)
+abbrev pub step_in : ℕ → ℕ → Lane → Option ℕ
+step_in l k (integer w) = cond (leb w 64) none (some i64)
+step_in l k (float e f) = cond (leb k 1) none (some l)
 
-abbrev pub step-of : ℕ → Option ℕ
-step-of n = step-in (lane-of n) (lanes-of n) (held-of n)
+abbrev pub step_of : ℕ → Option ℕ
+step_of n = step_in (lane_of n) (lanes_of n) (held_of n)
 
 -- ---- what the code answers
 
-abbrev pub number-found : Found → Option ℕ
-number-found (Found.Is t) = some (t .0)
-number-found Found.Nothing = none
+abbrev pub number_found : Found → Option ℕ
+number_found (Found.Is t) = some t.0
+number_found Found.Nothing = none
 
-abbrev pub known-number : ℕ → Option ℕ
-known-number n = cond (ltb n type-count) (some n) none
+abbrev pub known_number : ℕ → Option ℕ
+known_number n = cond (ltb n type_count) (some n) none
 
-abbrev pub plus-one : Option ℕ → ℕ
-plus-one none = 0
-plus-one (some n) = suc n
+abbrev pub plus_one : Option ℕ → ℕ
+plus_one none = 0
+plus_one (some n) = suc n
 
 -- the unset value of type n has these low 64 bits and these above them
 pub record Unset (n low high : ℕ) : Type 0 where
-  pub below : low ≡ unset-of n % 2 ^ 64
-  pub above : high ≡ unset-of n / 2 ^ 64
+  pub below : low ≡ unset_of n % 2 ^ 64
+  pub above : high ≡ unset_of n / 2 ^ 64
 
 -- all that there is to know of type n
 pub record Shaped (n : ℕ) (r : Shape) : Type 0 where
-  pub number : r .0 ≡ n
-  pub lane : r .1 ≡ lane-of n
-  pub lanes : r .2 ≡ lanes-of n
-  pub width : r .3 ≡ width-of n
-  pub step : r .4 ≡ plus-one (step-of n)
-  pub unset : Unset n (r .5) (r .6)
+  pub number : r.0 ≡ n
+  pub lane : r.1 ≡ lane_of n
+  pub lanes : r.2 ≡ lanes_of n
+  pub width : r.3 ≡ width_of n
+  pub step : r.4 ≡ plus_one (step_of n)
+  pub unset : Unset n r.5 r.6
 
 -- The quiet NaN of a float that has e bits of exponent above f bits of fraction, bit by bit.
-pub record Quiet-nan (e f bits : ℕ) : Type 0 where
+pub record QuietNan (e f bits : ℕ) : Type 0 where
   pub sign : bits / 2 ^ (e + f) ≡ 0
   pub exponent : bits / 2 ^ f ≡ 2 ^ e - 1
   pub fraction : bits % 2 ^ f ≡ 2 ^ (f - 1)

@@ -1,35 +1,44 @@
 // The numbers that stand for blocks, variables, values and branches; the types; what a value is, in one cell; the limits, and the rooms that follow from them.
-ghost use mathlib.Core.Path.{_≡_};
-ghost use lib.Dec.{eqb, ltb};
-ghost use Rattle·entity·specs.specs.Described.{Fits, Parts, packed, mark-of, with-mark};
-ghost use Rattle·entity·specs.specs.Host.{In-force, Needed};
-ghost use Rattle·entity·specs.specs.Types.{Shaped, Unset, known-number, lane-of, lanes-of, number-found, plus-one, step-of, type-count, width-of};
+#![tactic(auto)]
+
+ghost use Rattle.std.specs.Prelude.{◌≡◌, eqb, ltb};
+ghost use Rattle.entity.specs.Described.{Fits, Parts, packed, mark_of, with_mark};
+ghost use Rattle.entity.specs.Host.{InForce, Needed};
+ghost use Rattle.entity.specs.Types.{Shaped, Unset, known_number, lane_of, lanes_of, number_found, plus_one, step_of, type_count, width_of};
 
 // Four kinds of number, each a type of its own, so that one can't be taken for another.
+#[derive(Clone, Copy)]
 pub struct Block(pub u32);
 
+#[derive(Clone, Copy)]
 pub struct Variable(pub u32);
 
+#[derive(Clone, Copy)]
 pub struct Value(pub u32);
 
 // A branch bears the number of its block.
+#[derive(Clone, Copy)]
 pub struct Branch(pub u32);
 
 // A value or a block that may be missing, where the original has a `PackedOption`. A cell has its number plus one, 0 for none.
+#[derive(Clone, Copy)]
 pub enum OptionValue {
     Some(Value),
     None,
 }
 
+#[derive(Clone, Copy)]
 pub enum OptionBlock {
     Some(Block),
     None,
 }
 
 // A type is its number. A number past the table names none: it has no lane, no width and no bits.
+#[derive(Clone, Copy)]
 pub struct Type(pub u32);
 
 // What a number names.
+#[derive(Clone, Copy)]
 pub enum Found {
     Is(Type),
     Nothing,
@@ -37,6 +46,7 @@ pub enum Found {
 
 // What there is to know of a type: its number; the number of its lane's type (its own, unless it is a vector); how many lanes it has; its width in bytes; where
 // its zero takes two steps, the number of the first one's type plus one, else 0; the bits of its unset value, the low 64 and the high 64.
+#[derive(Clone, Copy)]
 struct Shape(u32, u32, u32, u32, u32, u64, u64);
 
 // Quiet NaNs side by side: two of 16 bits; then 64 bits of four, of two of 32, of one of 64, and the top of one of 128.
@@ -80,6 +90,7 @@ const SHAPES: [Shape; Type::COUNT as usize] = [
 ];
 
 // Up to 128 bits.
+#[derive(Clone, Copy)]
 pub struct Bits {
     pub low: u64,
     pub high: u64,
@@ -140,13 +151,13 @@ impl Type {
 
     // Does this number name a type? The types are numbered from 0, without a gap.
     pub fn known(n: u32) -> bool
-        ensures { λ r. ⌜ r ≡ ltb n type-count ⌝ }
+        ensures { result ≡ ltb n type_count }
     {
         n < Type::COUNT
     }
 
     pub fn from_number(n: u32) -> Found
-        ensures { λ r. ⌜ number-found r ≡ known-number n ⌝ }
+        ensures { number_found result ≡ known_number n }
     {
         if n < Type::COUNT {
             Found::Is(Type(n))
@@ -156,13 +167,13 @@ impl Type {
     }
 
     pub fn number(self) -> u32
-        ensures { λ r. ⌜ r ≡ self .0 ⌝ }
+        ensures { result ≡ self.0 }
     {
         self.0
     }
 
     fn shape(self) -> Shape
-        ensures { λ r. ⌜ Shaped (self .0) r ⌝ }
+        ensures { Shaped self.0 result }
     {
         if self.0 < Type::COUNT {
             SHAPES[self.0 as usize]
@@ -173,34 +184,34 @@ impl Type {
 
     // The type of each lane; a type that is no vector is its own.
     pub fn lane(self) -> Type
-        ensures { λ r. ⌜ r .0 ≡ lane-of (self .0) ⌝ }
+        ensures { result.0 ≡ lane_of self.0 }
     {
         Type(self.shape().1)
     }
 
     pub fn lanes(self) -> u32
-        ensures { λ r. ⌜ r ≡ lanes-of (self .0) ⌝ }
+        ensures { result ≡ lanes_of self.0 }
     {
         self.shape().2
     }
 
     // In bytes.
     pub fn width(self) -> u32
-        ensures { λ r. ⌜ r ≡ width-of (self .0) ⌝ }
+        ensures { result ≡ width_of self.0 }
     {
         self.shape().3
     }
 
     // A zero of this type is one constant, or is made in two steps: then this is the number of the first one's type plus one, else 0.
     pub fn step_plus_one(self) -> u32
-        ensures { λ r. ⌜ r ≡ plus-one (step-of (self .0)) ⌝ }
+        ensures { result ≡ plus_one (step_of self.0) }
     {
         self.shape().4
     }
 
     // The type of the first of two steps.
     pub fn step(self) -> Found
-        ensures { λ r. ⌜ number-found r ≡ step-of (self .0) ⌝ }
+        ensures { number_found result ≡ step_of self.0 }
     {
         let s = self.step_plus_one();
         if s == 0 {
@@ -212,7 +223,7 @@ impl Type {
 
     // The bits of the type's unset value: a zero of this type holds them. In each lane of a float they are a quiet NaN.
     pub fn unset_bits(self) -> Bits
-        ensures { λ r. ⌜ Unset (self .0) (r .low) (r .high) ⌝ }
+        ensures { Unset self.0 result.low result.high }
     {
         let s = self.shape();
         Bits {
@@ -224,6 +235,7 @@ impl Type {
 
 // What a value is: its cell holds the type in the lowest five bits, since the type is read most, then the sort in two and a bit that is the mark: stack maps
 // must have the value. The block stands on top, so that no limit on blocks moves the others.
+#[derive(Clone, Copy)]
 pub struct Described {
     pub ty: u32,
     pub sort: u32,
@@ -240,8 +252,8 @@ impl Described {
 
     // The cell, with no mark.
     pub fn cell(self) -> u32
-        requires { ⌜ Fits (self .ty) (self .sort) (self .block .0) ⌝ }
-        ensures { λ r. ⌜ r ≡ packed (self .ty) (self .sort) 0 (self .block .0) ⌝ }
+        requires { Fits self.ty self.sort self.block.0 }
+        ensures { result ≡ packed self.ty self.sort 0 self.block.0 }
     {
         (self.block.0 * Described::MARKS * Described::SORTS + self.sort) * Described::TYPES
             + self.ty
@@ -249,7 +261,7 @@ impl Described {
 
     // What any cell says, whether it is marked or not.
     pub fn from_cell(cell: u32) -> Described
-        ensures { λ r. ⌜ Parts cell r ⌝ }
+        ensures { Parts cell result }
     {
         Described {
             ty: cell % Described::TYPES,
@@ -260,7 +272,7 @@ impl Described {
 
     // The same with its mark set; it may be set already.
     pub fn marked(cell: u32) -> u32
-        ensures { λ r. ⌜ r ≡ with-mark cell ⌝ }
+        ensures { result ≡ with_mark cell }
     {
         let unit = Described::TYPES * Described::SORTS;
         let above = cell / unit / Described::MARKS;
@@ -269,7 +281,7 @@ impl Described {
 
     // Is it set?
     pub fn is_marked(cell: u32) -> bool
-        ensures { λ r. ⌜ r ≡ eqb (mark-of cell) 1 ⌝ }
+        ensures { result ≡ eqb (mark_of cell) 1 }
     {
         cell / Described::TYPES / Described::SORTS % Described::MARKS == 1
     }
@@ -338,6 +350,7 @@ pub const FORM_NEED: usize = 2
 
 pub const WORK_NEED: usize = 2 * CALL_ROOM + RESULT_ROOM;
 
+#[derive(Clone, Copy)]
 pub struct Limits {
     pub blocks: u32,
     pub variables: u32,
@@ -350,7 +363,7 @@ pub struct Limits {
 impl Limits {
     // Tells a host what a session takes.
     pub fn in_force() -> Limits
-        ensures { λ r. ⌜ In-force r ⌝ }
+        ensures { InForce result }
     {
         Limits {
             blocks: BLOCKS,
@@ -363,6 +376,7 @@ impl Limits {
     }
 }
 
+#[derive(Clone, Copy)]
 pub struct Rooms {
     pub values: usize,
     pub zeros: usize,
@@ -379,7 +393,7 @@ pub struct Rooms {
 impl Rooms {
     // Tells a host how long its tables must be.
     pub fn needed() -> Rooms
-        ensures { λ r. ⌜ Needed r ⌝ }
+        ensures { Needed result }
     {
         Rooms {
             values: VALUE_ROOM,

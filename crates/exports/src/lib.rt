@@ -1,20 +1,18 @@
 // What C and Rust link: the public calls under names of their own.
-ghost use mathlib.Core.Path.{_≡_};
-ghost use lib.ListN.{drop};
-ghost use Rattle·definition.specs.Resolve.{Resolved};
-ghost use Rattle·draw.specs.Draws.{Draws};
-ghost use Rattle·layout.specs.Outcome.{lent};
-ghost use Rattle·reader.specs.Marks.{Is-recorded, next-of};
-ghost use Rattle·reader.specs.Rows.{Located};
-ghost use Rattle·reader.specs.declared.Asked.the-variants.{Params, Args};
-ghost use Rattle·session.specs.Ends.{Ended};
-ghost use Rattle·exports·specs.specs.Told.{Type-told, told};
-use entity::Block;
-use entity::Branch;
-use entity::Type;
-use entity::Value;
-use reader::Asked;
-use reader::Span;
+#![tactic(auto)]
+
+ghost use Rattle.std.specs.Prelude.{◌≡◌, drop};
+ghost use Rattle.definition.specs.Resolve.{Resolved};
+ghost use Rattle.draw.specs.Draws.{Draws};
+ghost use Rattle.layout.specs.Outcome.{lent};
+ghost use Rattle.reader.specs.Marks.{IsRecorded, next_of};
+ghost use Rattle.reader.specs.Rows.{Located};
+ghost use Rattle.reader.specs.declared.Asked.TheVariants.{Params, Args};
+ghost use Rattle.session.specs.Ends.{Ended};
+ghost use Rattle.exports.specs.Told.{TypeTold, told};
+
+use entity::{Block, Branch, Type, Value};
+use reader::{Asked, Span};
 
 // Raised when an exported call takes, answers or leaves something else, or what it leaves stands for something else: a host built for another version
 // refuses to start.
@@ -44,6 +42,7 @@ const TOLD: [u32; 13] = [
 
 // Code and number of an answer, as C sees them.
 #[repr(C)]
+#[derive(Clone, Copy)]
 pub struct SangvirebAnswer {
     pub code: u32,
     pub number: u32,
@@ -51,6 +50,7 @@ pub struct SangvirebAnswer {
 
 // Code and length of a picture, as C sees them.
 #[repr(C)]
+#[derive(Clone, Copy)]
 pub struct SangvirebDrawn {
     pub code: u32,
     pub length: usize,
@@ -59,6 +59,7 @@ pub struct SangvirebDrawn {
 // A type, as C sees it: the number of its lane's type, how many lanes, the width in bytes; where a zero takes two steps, the number of the first one's type
 // plus one, else 0; the bits of its unset value, which a zero holds, the low 64 and the high 64.
 #[repr(C)]
+#[derive(Clone, Copy)]
 pub struct SangvirebType {
     pub lane: u32,
     pub lanes: u32,
@@ -69,7 +70,7 @@ pub struct SangvirebType {
 }
 
 // A session over lent lists: crates/session says what it answers and leaves.
-#[no_mangle]
+#[unsafe(no_mangle)]
 pub extern "C" fn sangvireb_session(
     kinds: &[u32],
     xs: &[u32],
@@ -81,17 +82,17 @@ pub extern "C" fn sangvireb_session(
     form: &mut [u32],
     work: &mut [u32],
 ) -> u32
-    ensures { λ r. ⌜ Ended (now (kinds .entry)) (now (xs .entry)) (now (ys .entry)) (now (zs .entry))
-        (lent (now (codes .entry)) (now (numbers .entry)) (now (graph .entry)) (now (form .entry)) (now (work .entry)))
-        (lent (now (codes .exit)) (now (numbers .exit)) (now (graph .exit)) (now (form .exit)) (now (work .exit))) r ⌝ }
+    ensures { Ended kinds.now xs.now ys.now zs.now
+        (lent codes.old numbers.old graph.old form.old work.old)
+        (lent codes.new numbers.new graph.new form.new work.new) result }
 {
     session::session(kinds, xs, ys, zs, codes, numbers, graph, form, work)
 }
 
 // Follows alias targets: crates/alias says what it answers.
-#[no_mangle]
+#[unsafe(no_mangle)]
 pub extern "C" fn sangvireb_resolve(targets: &[u32], value: u32) -> SangvirebAnswer
-    ensures { λ r. ⌜ Resolved (now (targets .entry)) value (r .code) (r .number) ⌝ }
+    ensures { Resolved targets.now value result.code result.number }
 {
     let a = alias::resolve(targets, Value(value));
     SangvirebAnswer {
@@ -101,25 +102,25 @@ pub extern "C" fn sangvireb_resolve(targets: &[u32], value: u32) -> SangvirebAns
 }
 
 // The parameters of a block, in the lent table of parameters: crates/reader says where.
-#[no_mangle]
+#[unsafe(no_mangle)]
 pub extern "C" fn sangvireb_params(params: &[u32], block: u32) -> Span
-    ensures { λ r. ⌜ Located (now (params .entry)) (Params record { 0 = block }) (r .code) (r .start) (r .length) ⌝ }
+    ensures { Located params.now (Params record { 0 = block }) result.code result.start result.length }
 {
     reader::locate(params, Asked::Params(Block(block)))
 }
 
 // The arguments of a branch's destination by its place, in the lent table of arguments.
-#[no_mangle]
+#[unsafe(no_mangle)]
 pub extern "C" fn sangvireb_args(args: &[u32], branch: u32, place: u32) -> Span
-    ensures { λ r. ⌜ Located (now (args .entry)) (Args record { 0 = branch } place) (r .code) (r .start) (r .length) ⌝ }
+    ensures { Located args.now (Args record { 0 = branch } place) result.code result.start result.length }
 {
     reader::locate(args, Asked::Args(Branch(branch), place))
 }
 
 // Is the value recorded for stack maps, by the lent descriptions of the values?
-#[no_mangle]
+#[unsafe(no_mangle)]
 pub extern "C" fn sangvireb_recorded(described: &[u32], value: u32) -> SangvirebAnswer
-    ensures { λ r. ⌜ Is-recorded (now (described .entry)) value (r .code) (r .number) ⌝ }
+    ensures { IsRecorded described.now value result.code result.number }
 {
     let a = reader::recorded(described, Value(value));
     SangvirebAnswer {
@@ -129,17 +130,17 @@ pub extern "C" fn sangvireb_recorded(described: &[u32], value: u32) -> Sangvireb
 }
 
 // The first value from this number on that is; a number past the descriptions if there is none.
-#[no_mangle]
+#[unsafe(no_mangle)]
 pub extern "C" fn sangvireb_next_recorded(described: &[u32], from: usize) -> usize
-    ensures { λ r. ⌜ r ≡ next-of from (drop from (now (described .entry))) ⌝ }
+    ensures { result ≡ next_of from (drop from described.now) }
 {
     reader::next_recorded(described, from)
 }
 
 // Draws finished tables: crates/draw says what it answers and writes.
-#[no_mangle]
+#[unsafe(no_mangle)]
 pub extern "C" fn sangvireb_draw(graph: &[u32], form: &[u32], buffer: &mut [u8]) -> SangvirebDrawn
-    ensures { λ r. ⌜ Draws (now (graph .entry)) (now (form .entry)) (now (buffer .entry)) (now (buffer .exit)) (r .code) (r .length) ⌝ }
+    ensures { Draws graph.now form.now buffer.old buffer.new result.code result.length }
 {
     let d = draw::draw(graph, form, buffer);
     SangvirebDrawn {
@@ -149,9 +150,9 @@ pub extern "C" fn sangvireb_draw(graph: &[u32], form: &[u32], buffer: &mut [u8])
 }
 
 // What there is to know of a type, by its number. A number that names no type has no lanes, no width and no bits.
-#[no_mangle]
+#[unsafe(no_mangle)]
 pub extern "C" fn sangvireb_type(ty: u32) -> SangvirebType
-    ensures { λ r. ⌜ Type-told ty r ⌝ }
+    ensures { TypeTold ty result }
 {
     let t = Type(ty);
     let bits = t.unset_bits();
@@ -166,9 +167,9 @@ pub extern "C" fn sangvireb_type(ty: u32) -> SangvirebType
 }
 
 // Tells a host what this library was built for. The places keep their meaning from version to version; a place past them gets 0.
-#[no_mangle]
+#[unsafe(no_mangle)]
 pub extern "C" fn sangvireb_limit(which: u32) -> u32
-    ensures { λ r. ⌜ r ≡ told which ⌝ }
+    ensures { result ≡ told which }
 {
     let at = which as usize;
     if at < TOLD.len() { TOLD[at] } else { 0 }

@@ -1,109 +1,109 @@
 -- Definitions and pending variables in the cells: a cell of a grid, and a row of a table.
 -- Assumes nothing.
-use Prim.Native.Nat.{ℕ, _+_, _-_, _*_, _≤_, _<_}
-use mathlib.Core.Path.{_≡_, refl, sym, ap, _∙_}
+use Prim.Native.Nat.{ℕ, ◌+◌, ◌-◌, ◌*◌, ◌≤◌, ◌<◌}
+use mathlib.Core.Path.{◌≡◌, refl, sym, ap, ◌∙◌}
 use mathlib.Core.Option.{Option, none, some}
-use mathlib.Core.List.{List, [], _∷_, _++_, map-append}
+use mathlib.Core.List.{List, [], ◌∷◌, ◌++◌, map-append}
 use native.Mathlib.Omega.{arith}
 use native.Mathlib.Numerals.{add-one}
-use lib.ListN.{length, getD, set, length-map}
-use Rattle·entity.specs.Limits.{limits, wait-room}
-use Rattle·definition.specs.Base.{put, put₂, orElse}
-use Rattle·definition.specs.Form.{Form, def}
-use Rattle·definition.specs.Read.{write, mark-one, wait, set-pending}
-use Rattle·definition.specs.Tables.{plus-one}
-use Rattle·meaning.proofs.Maps.{put-same, put-other, put₂-at, put₂-other}
-use Rattle·layout.specs.Cells.{base, Holds, grid}
-use Rattle·layout.specs.Layout.{firsts, form-sizes, form-tables, wait-row}
-use Rattle·layout.specs.Rows.{Row, Readable, Pushable, pushed, wipe}
-use Rattle·layout.proofs.Rows.{row-count, row-entry, row-readable}
-use Rattle·layout.proofs.Grids.{grid-at, grid-store, row-among, rows-changed}
-use Rattle·layout.proofs.Copies.{Copied}
-use Rattle·layout.proofs.Removals.{row-wiped}
-use Rattle·layout.proofs.Pushes.{rows-can-push, rows-more}
-use Rattle·form·specs.specs.Can.{Cells, Has-def, Recorded, Can-wait, Has-pending, Lists}
+use lib.ListN.{length, get_or, set, length-map}
+use Rattle.entity.specs.Limits.{limits, wait_room}
+use Rattle.definition.specs.Base.{put, put₂, or_else}
+use Rattle.definition.specs.Form.{Form, def}
+use Rattle.definition.specs.Read.{write, mark_one, wait, set_pending}
+use Rattle.definition.specs.Tables.{plus_one}
+use Rattle.meaning.proofs.Maps.{put_same, put_other, put₂_at, put₂_other}
+use Rattle.layout.specs.Cells.{base, Holds, grid}
+use Rattle.layout.specs.Layout.{firsts, form_sizes, form_tables, wait_row}
+use Rattle.layout.specs.Rows.{Row, Readable, Pushable, pushed, wipe}
+use Rattle.layout.proofs.Rows.{row_count, row_entry, row_readable}
+use Rattle.layout.proofs.Grids.{grid_at, grid_store, row_among, rows_changed}
+use Rattle.layout.proofs.Copies.{Copied}
+use Rattle.layout.proofs.Removals.{row_wiped}
+use Rattle.layout.proofs.Pushes.{rows_can_push, rows_more}
+use Rattle.form.specs.Can.{Cells, HasDef, Recorded, CanWait, HasPending, Lists}
 
 -- ---- definitions
 
 -- what a number in a cell stands for
-none-of : {x : ℕ} (o : Option ℕ) → x ≡ plus-one o → x ≡ 0 → none ≡ o
-none-of none e z = refl
-none-of (some y) e z = absurd (omega arith)
+none_of : {x : ℕ} (o : Option ℕ) → x ≡ plus_one o → x ≡ 0 → none ≡ o
+none_of none e z = refl
+none_of (some y) e z = absurd (omega arith)
 
-some-of : {x : ℕ} (o : Option ℕ) → x ≡ plus-one o → (x ≡ 0 → ⊥) → some (x - 1) ≡ o
-some-of none e d = absurd (d e)
-some-of {x} (some y) e d = let w : x - 1 ≡ y = omega arith in ap {B = Option ℕ} some w
+some_of : {x : ℕ} (o : Option ℕ) → x ≡ plus_one o → (x ≡ 0 → ⊥) → some (x - 1) ≡ o
+some_of none e d = absurd (d e)
+some_of {x} (some y) e d = let w : x - 1 ≡ y = omega arith in ap {B = Option ℕ} some w
 
 module _ (l : List ℕ) (v b : ℕ) where
-  pub definition-is : (s : Form) → Has-def l v b s → getD l (base form-sizes 10 + (v * limits .blocks + b)) 0 ≡ plus-one (def s v b)
-  definition-is s p = p .cells .at 10 (v * limits .blocks + b) (omega (arith, p .var, p .known)) ∙ grid-at (limits .blocks) (λ w d. plus-one (def s w d)) v b (p .known)
+  pub definition_is : (s : Form) → HasDef l v b s → get_or l (base form_sizes 10 + (v * limits.blocks + b)) 0 ≡ plus_one (def s v b)
+  definition_is s p = p.cells.at 10 (v * limits.blocks + b) (omega (arith, p.var, p.known)) ∙ grid_at limits.blocks (λ w d. plus_one (def s w d)) v b p.known
 
-  module _ (s : Form) (p : Has-def l v b s) where
-    pub no-definition : getD l (base form-sizes 10 + (v * limits .blocks + b)) 0 ≡ 0 → none ≡ def s v b
-    no-definition = none-of (def s v b) (definition-is s p)
+  module _ (s : Form) (p : HasDef l v b s) where
+    pub no_definition : get_or l (base form_sizes 10 + (v * limits.blocks + b)) 0 ≡ 0 → none ≡ def s v b
+    no_definition = none_of (def s v b) (definition_is s p)
 
-    pub the-definition : (getD l (base form-sizes 10 + (v * limits .blocks + b)) 0 ≡ 0 → ⊥) → some (getD l (base form-sizes 10 + (v * limits .blocks + b)) 0 - 1) ≡ def s v b
-    the-definition = some-of (def s v b) (definition-is s p)
+    pub the_definition : (get_or l (base form_sizes 10 + (v * limits.blocks + b)) 0 ≡ 0 → ⊥) → some (get_or l (base form_sizes 10 + (v * limits.blocks + b)) 0 - 1) ≡ def s v b
+    the_definition = some_of (def s v b) (definition_is s p)
 
   module _ (x : ℕ) where
-    definition-stored : (s s′ : Form) → Has-def l v b s → def s′ v b ≡ some x → ((w d : ℕ) → (w ≡ v → d ≡ b → ⊥) → def s′ w d ≡ def s w d)
-        → Holds form-sizes (set l (base form-sizes 10 + (v * limits .blocks + b)) (x + 1)) (set (form-tables s) 10 (grid (limits .blocks) (λ w d. plus-one (def s′ w d))))
-    definition-stored s s′ p on off =
-        grid-store form-sizes l (form-tables s) 10 (p .cells) (limits .blocks) (λ w d. plus-one (def s w d)) (λ w d. plus-one (def s′ w d)) v b (x + 1) refl (omega (arith, p .var, p .known)) (p .known) (omega arith)
-        (ap plus-one on ∙ sym (add-one x)) (λ w d n. ap plus-one (off w d n))
+    definition_stored : (s s' : Form) → HasDef l v b s → def s' v b ≡ some x → ((w d : ℕ) → (w ≡ v → d ≡ b → ⊥) → def s' w d ≡ def s w d)
+        → Holds form_sizes (set l (base form_sizes 10 + (v * limits.blocks + b)) (x + 1)) (set (form_tables s) 10 (grid limits.blocks (λ w d. plus_one (def s' w d))))
+    definition_stored s s' p on off =
+        grid_store form_sizes l (form_tables s) 10 p.cells limits.blocks (λ w d. plus_one (def s w d)) (λ w d. plus_one (def s' w d)) v b (x + 1) refl (omega (arith, p.var, p.known)) p.known (omega arith)
+        (ap plus_one on ∙ sym (add-one x)) (λ w d n. ap plus_one (off w d n))
 
-    pub definition-recorded : Recorded l (set l (base form-sizes 10 + (v * limits .blocks + b)) (x + 1)) v b x
-    definition-recorded = record {
-      own = λ s p. definition-stored s (write v b x s) p
-          (ap (λ (o : Option ℕ). orElse o (s .entry v b)) (put₂-at v b (some x) (s .own) v b refl refl))
-          (λ w d n. ap (λ (o : Option ℕ). orElse o (s .entry w d)) (put₂-other v b (some x) (s .own) w d n));
-      entry = λ s p free. definition-stored s (mark-one v x b s) p
-          (ap (λ (o : Option ℕ). orElse o (put₂ v b (some x) (s .entry) v b)) free ∙ put₂-at v b (some x) (s .entry) v b refl refl)
-          (λ w d n. ap (orElse (s .own w d)) (put₂-other v b (some x) (s .entry) w d n));
+    pub definition_recorded : Recorded l (set l (base form_sizes 10 + (v * limits.blocks + b)) (x + 1)) v b x
+    definition_recorded = record {
+      own = λ s p. definition_stored s (write v b x s) p
+          (ap (λ (o : Option ℕ). or_else o (s.entry v b)) (put₂_at v b (some x) s.own v b refl refl))
+          (λ w d n. ap (λ (o : Option ℕ). or_else o (s.entry w d)) (put₂_other v b (some x) s.own w d n));
+      entry = λ s p free. definition_stored s (mark_one v x b s) p
+          (ap (λ (o : Option ℕ). or_else o (put₂ v b (some x) s.entry v b)) free ∙ put₂_at v b (some x) s.entry v b refl refl)
+          (λ w d n. ap (or_else (s.own w d)) (put₂_other v b (some x) s.entry w d n));
     }
 
 -- ---- pending variables
 
 module _ (l : List ℕ) (b : ℕ) (s : Form) where
   abbrev pendings : ℕ → List ℕ
-  pendings d = firsts (s .pending d)
+  pendings d = firsts (s.pending d)
 
-  count : length (pendings b) ≡ length (s .pending b)
-  count = length-map (s .pending b) (λ w. w .0)
+  count : length (pendings b) ≡ length (s.pending b)
+  count = length-map (s.pending b) (λ w. w.0)
 
-  module _ (p : Can-wait l b s) where
-    pub pending-room : Pushable l (base form-sizes 9 + b * wait-row)
-    pending-room = rows-can-push form-sizes l (form-tables s) 9 (p .cells) wait-row pendings b refl (omega (arith, p .known)) (omega (arith, p .row, count)) (omega (arith, p .row, count))
+  module _ (p : CanWait l b s) where
+    pub pending_room : Pushable l (base form_sizes 9 + b * wait_row)
+    pending_room = rows_can_push form_sizes l (form_tables s) 9 p.cells wait_row pendings b refl (omega (arith, p.known)) (omega (arith, p.row, count)) (omega (arith, p.row, count))
 
-    pub pending-pushed : (v x : ℕ) (l₁ : List ℕ) → l₁ ≡ pushed l (base form-sizes 9 + b * wait-row) v → Cells l₁ (wait v b x s)
-    pending-pushed v x l₁ e =
-        let ws = s .pending b ++ (v, x) ∷ [] in
+    pub pending_pushed : (v x : ℕ) (l₁ : List ℕ) → l₁ ≡ pushed l (base form_sizes 9 + b * wait_row) v → Cells l₁ (wait v b x s)
+    pending_pushed v x l₁ e =
+        let ws = s.pending b ++ (v, x) ∷ [] in
         rw e
-        (rows-more form-sizes l (form-tables s) 9 (p .cells) wait-row pendings b refl (omega (arith, p .known)) (omega (arith, p .row, count)) v (λ d. firsts (put b ws (s .pending) d)) (omega arith)
-        (ap firsts (put-same b ws (s .pending)) ∙ map-append (λ w. w .0) (s .pending b) ((v, x) ∷ [])) (λ d n. ap firsts (put-other b ws (s .pending) d n)))
+        (rows_more form_sizes l (form_tables s) 9 p.cells wait_row pendings b refl (omega (arith, p.known)) (omega (arith, p.row, count)) v (λ d. firsts (put b ws s.pending d)) (omega arith)
+        (ap firsts (put_same b ws s.pending) ∙ map-append (λ w. w.0) (s.pending b) ((v, x) ∷ [])) (λ d n. ap firsts (put_other b ws s.pending d n)))
 
-  module _ (p : Has-pending l b s) where
-    the-row : Row l (base form-sizes 9 + b * wait-row) wait-row (pendings b)
-    the-row = row-among form-sizes l (form-tables s) 9 (p .cells) wait-row pendings b refl (omega (arith, p .known)) (omega (arith, p .few, count))
+  module _ (p : HasPending l b s) where
+    the_row : Row l (base form_sizes 9 + b * wait_row) wait_row (pendings b)
+    the_row = row_among form_sizes l (form_tables s) 9 p.cells wait_row pendings b refl (omega (arith, p.known)) (omega (arith, p.few, count))
 
-    pub pending-count : getD l (base form-sizes 9 + b * wait-row) 0 ≡ length (s .pending b)
-    pending-count = row-count l (base form-sizes 9 + b * wait-row) wait-row (pendings b) the-row ∙ count
+    pub pending_count : get_or l (base form_sizes 9 + b * wait_row) 0 ≡ length (s.pending b)
+    pending_count = row_count l (base form_sizes 9 + b * wait_row) wait_row (pendings b) the_row ∙ count
 
-    pub pending-few : getD l (base form-sizes 9 + b * wait-row) 0 ≤ wait-room limits
-    pending-few = omega (arith, pending-count, p .few)
+    pub pending_few : get_or l (base form_sizes 9 + b * wait_row) 0 ≤ wait_room limits
+    pending_few = omega (arith, pending_count, p.few)
 
-    pending-at : (i : ℕ) → i < length (s .pending b) → getD l (base form-sizes 9 + b * wait-row + 1 + i) 0 ≡ getD (pendings b) i 0
-    pending-at i lt = row-entry l (base form-sizes 9 + b * wait-row) wait-row (pendings b) the-row i (omega (arith, p .few))
+    pending_at : (i : ℕ) → i < length (s.pending b) → get_or l (base form_sizes 9 + b * wait_row + 1 + i) 0 ≡ get_or (pendings b) i 0
+    pending_at i lt = row_entry l (base form_sizes 9 + b * wait_row) wait_row (pendings b) the_row i (omega (arith, p.few))
 
-    pub pending-readable : Readable l (base form-sizes 9 + b * wait-row)
-    pending-readable = row-readable l (base form-sizes 9 + b * wait-row) wait-row (pendings b) the-row (omega (arith, p .few, count))
+    pub pending_readable : Readable l (base form_sizes 9 + b * wait_row)
+    pending_readable = row_readable l (base form_sizes 9 + b * wait_row) wait_row (pendings b) the_row (omega (arith, p.few, count))
 
-    pub pending-cleared : (l₁ : List ℕ) → l₁ ≡ wipe (base form-sizes 9 + b * wait-row) (getD l (base form-sizes 9 + b * wait-row) 0) 0 l → Cells l₁ (set-pending b [] s)
-    pending-cleared l₁ e =
+    pub pending_cleared : (l₁ : List ℕ) → l₁ ≡ wipe (base form_sizes 9 + b * wait_row) (get_or l (base form_sizes 9 + b * wait_row) 0) 0 l → Cells l₁ (set_pending b [] s)
+    pending_cleared l₁ e =
         rw e
-        (rows-changed form-sizes l (form-tables s) 9 (p .cells) wait-row pendings b refl (omega (arith, p .known)) (wipe (base form-sizes 9 + b * wait-row) (getD l (base form-sizes 9 + b * wait-row) 0) 0 l)
-        (λ d. firsts (put b [] (s .pending) d)) (omega arith) (omega arith) (rw put-same (row-wiped l (base form-sizes 9 + b * wait-row) wait-row (pendings b) the-row)) (λ d n. ap firsts (put-other b [] (s .pending) d n)))
+        (rows_changed form_sizes l (form_tables s) 9 p.cells wait_row pendings b refl (omega (arith, p.known)) (wipe (base form_sizes 9 + b * wait_row) (get_or l (base form_sizes 9 + b * wait_row) 0) 0 l)
+        (λ d. firsts (put b [] s.pending d)) (omega arith) (omega arith) (rw put_same (row_wiped l (base form_sizes 9 + b * wait_row) wait_row (pendings b) the_row)) (λ d n. ap firsts (put_other b [] s.pending d n)))
 
-pub pending-listed : (l : List ℕ) (b : ℕ) (list : List ℕ) (i n : ℕ) → n ≤ i → Copied l (base form-sizes 9 + b * wait-row) list i
-    → (s : Form) → Has-pending l b s → n ≡ length (s .pending b) → Lists list b n s
-pending-listed l b list i n le C s p e = record { count = e; at = λ j lt. C .at j (omega arith) ∙ pending-at l b s p j (omega arith) }
+pub pending_listed : (l : List ℕ) (b : ℕ) (list : List ℕ) (i n : ℕ) → n ≤ i → Copied l (base form_sizes 9 + b * wait_row) list i
+    → (s : Form) → HasPending l b s → n ≡ length (s.pending b) → Lists list b n s
+pending_listed l b list i n le C s p e = record { count = e; at = λ j lt. C.at j (omega arith) ∙ pending_at l b s p j (omega arith) }

@@ -1,41 +1,26 @@
 // The form in lent cells: every read and every change of it. Nothing above this crate mentions its cells.
-ghost use mathlib.Core.Path.{_≡_};
-ghost use Prim.Native.Nat.{ℕ, suc, _<_, _≤_};
-ghost use lib.ListN.{length, getD};
-ghost use Rattle·entity.specs.Described.{Fits, type-room};
-ghost use Rattle·entity.specs.Limits.{limits, value-room, wait-room};
-ghost use Rattle·entity.specs.Options.{value-of};
-ghost use Rattle·entity.specs.Types.{type-count};
-ghost use Rattle·definition.specs.Base.{put, put₂, is-some, _∷ʳ_, has, any, upFrom, without};
-ghost use Rattle·definition.specs.Form.{Graph, Form, Sort, def, with-makes, with-target, with-owns, with-args};
-ghost use Rattle·definition.specs.Read.{make as made-of, set-params, wait, log-zero, place-block, record-binding};
-ghost use Rattle·definition.specs.Tables.{sort-number};
-ghost use Rattle·layout.specs.Counts.{more};
-ghost use Rattle·layout.specs.Layout.{Shows};
-ghost use Rattle·form·specs.specs.Can.{Cells, Ex, Can-make, Can-count, Has-value, Can-append, Has-params, Has-param, Next-param};
-ghost use Rattle·form·specs.specs.Can.{Has-owns, Can-own, Has-args, Can-feed};
-ghost use Rattle·form·specs.specs.Can.{Has-def, Has-defs, Recorded, Can-wait, Has-pending, Lists, Taken, Can-log, Has-placed, Can-place};
-use entity::Block;
-use entity::Branch;
-use entity::Described;
-use entity::OptionValue;
-use entity::PARAM_ROW;
-use entity::Value;
-use entity::Variable;
-use entity::WAIT_ROW;
-use layout::ARGS;
-use layout::Counts;
-use layout::DEFS;
-use layout::DESCRIBED;
-use layout::MADE_COUNT;
-use layout::OWNS;
-use layout::PARAMS;
-use layout::PENDING;
-use layout::PLACED;
-use layout::TARGET;
-use layout::VALUE_COUNT;
-use layout::ZERO_BLOCKS;
-use layout::ZERO_CALLS;
+#![tactic(auto)]
+
+ghost use Rattle.std.specs.Prelude.{◌≡◌, ℕ, suc, ◌<◌, ◌≤◌, length, get_or};
+ghost use Rattle.entity.specs.Described.{Fits, type_room};
+ghost use Rattle.entity.specs.Limits.{limits, value_room, wait_room};
+ghost use Rattle.entity.specs.Options.{value_of};
+ghost use Rattle.entity.specs.Types.{type_count};
+ghost use Rattle.definition.specs.Base.{put, put₂, is_some, ◌∷ʳ◌, has, any, up_from, without};
+ghost use Rattle.definition.specs.Form.{Graph, Form, Sort, def, with_makes, with_target, with_owns, with_args};
+ghost use Rattle.definition.specs.Read.{make as made_of, set_params, wait, log_zero, place_block, record_binding};
+ghost use Rattle.definition.specs.Tables.{sort_number};
+ghost use Rattle.layout.specs.Counts.{more};
+ghost use Rattle.layout.specs.Layout.{Shows};
+ghost use Rattle.form.specs.Can.{Cells, Ex, CanMake, CanCount, HasValue, CanAppend, HasParams, HasParam, NextParam};
+ghost use Rattle.form.specs.Can.{HasOwns, CanOwn, HasArgs, CanFeed};
+ghost use Rattle.form.specs.Can.{HasDef, HasDefs, Recorded, CanWait, HasPending, Lists, Taken, CanLog, HasPlaced, CanPlace};
+
+use entity::{Block, Branch, Described, OptionValue, PARAM_ROW, Value, Variable, WAIT_ROW};
+use layout::{
+    ARGS, Counts, DEFS, DESCRIBED, MADE_COUNT, OWNS, PARAMS, PENDING, PLACED, TARGET, VALUE_COUNT,
+    ZERO_BLOCKS, ZERO_CALLS,
+};
 
 // The sorts of values: made by the caller, a parameter that the builder gave a block, a zero where nothing was defined, a parameter of the caller's.
 pub const MADE: u32 = 0;
@@ -48,10 +33,10 @@ pub const CALLER: u32 = 3;
 
 // The next value. It is its own alias target until it becomes another name.
 pub fn make(form: &mut [u32], c: Counts, sort: u32, ty: u32, block: Block) -> Counts
-    requires { ⌜ Ex (Can-make (now form) c) ⌝ }
-    requires { ⌜ Fits ty sort (block .0) ⌝ }
-    ensures { λ r. ⌜ (r ≡ more c) × ((s : Form) → Can-make (now (form .entry)) c s → (k : Sort) → sort ≡ sort-number k
-        → Shows (now (form .exit)) (more c) (made-of k ty (block .0) s)) ⌝ }
+    requires ex { Ex (CanMake form.old c) }
+    requires fits { Fits ty sort block.0 }
+    ensures { (result ≡ more c) × ((s : Form) → CanMake form.old c s → (k : Sort) → sort ≡ sort_number k
+        → Shows form.new (more c) (made_of k ty block.0 s)) }
 {
     let n = c.values;
     let i = n as usize;
@@ -64,25 +49,25 @@ pub fn make(form: &mut [u32], c: Counts, sort: u32, ty: u32, block: Block) -> Co
 
 // One more value that the caller made, who may make only so many.
 pub fn count_made(form: &mut [u32])
-    requires { ⌜ Ex (Can-count (now form)) ⌝ }
-    ensures { λ r. ⌜ ((s : Form) → Can-count (now (form .entry)) s → Cells (now (form .exit)) (with-makes s (suc (s .makes)))) ⌝ }
+    requires { Ex (CanCount form.old) }
+    ensures { (s : Form) → CanCount form.old s → Cells form.new (with_makes s (suc s.makes)) }
 {
     form[MADE_COUNT] = form[MADE_COUNT] + 1;
 }
 
 // How many values the caller made: the limit is on these.
 pub fn made_count(form: &[u32]) -> u32
-    requires { ⌜ Ex (Cells (now form)) ⌝ }
-    ensures { λ r. ⌜ ((s : Form) → Cells (now (form .entry)) s → r ≡ s .makes) ⌝ }
+    requires { Ex (Cells form.now) }
+    ensures { (s : Form) → Cells form.now s → result ≡ s.makes }
 {
     form[MADE_COUNT]
 }
 
 // A zero has the type of the parameter that it stands for, and a variable takes only values of its own.
 pub fn value_type(form: &[u32], val: Value) -> u32
-    requires { ⌜ Ex (Has-value (now form) (val .0)) ⌝ }
-    ensures { λ r. ⌜ (r < type-room) × ((s : Form) → Has-value (now (form .entry)) (val .0) s → s .info (val .0) .type < type-count
-        → r ≡ s .info (val .0) .type) ⌝ }
+    requires { Ex (HasValue form.now val.0) }
+    ensures { (result < type_room) × ((s : Form) → HasValue form.now val.0 s → (s.info val.0).type < type_count
+        → result ≡ (s.info val.0).type) }
 {
     let i = val.0 as usize;
     let d = Described::from_cell(form[DESCRIBED + i]);
@@ -91,19 +76,19 @@ pub fn value_type(form: &[u32], val: Value) -> u32
 
 // How many zeros the log has: a call answers how many it added.
 pub fn zero_count(form: &[u32]) -> u32
-    requires { ⌜ Ex (Cells (now form)) ⌝ }
-    ensures { λ r. ⌜ ((s : Form) → Cells (now (form .entry)) s → r ≡ length (s .zeros)) ⌝ }
+    requires { Ex (Cells form.now) }
+    ensures { (s : Form) → Cells form.now s → result ≡ length s.zeros }
 {
     form[ZERO_CALLS]
 }
 
 // The next value, as the block's last parameter: the builder's or the caller's, by its sort.
 pub fn append_block_param(form: &mut [u32], c: Counts, block: Block, sort: u32, ty: u32) -> Counts
-    requires { ⌜ Ex (Can-append (now form) c (block .0)) ⌝ }
-    requires { ⌜ ty < type-room ⌝ }
-    requires { ⌜ ((k : Sort) × (sort ≡ sort-number k)) ⌝ }
-    ensures { λ r. ⌜ (r ≡ more c) × ((s : Form) → Can-append (now (form .entry)) c (block .0) s → (k : Sort) → sort ≡ sort-number k
-        → Shows (now (form .exit)) (more c) (set-params (block .0) (s .params (block .0) ∷ʳ s .next) (made-of k ty (block .0) s))) ⌝ }
+    requires ex { Ex (CanAppend form.old c block.0) }
+    requires ty_lt_type_room { ty < type_room }
+    requires sort_value { (k : Sort) × (sort ≡ sort_number k) }
+    ensures { (result ≡ more c) × ((s : Form) → CanAppend form.old c block.0 s → (k : Sort) → sort ≡ sort_number k
+        → Shows form.new (more c) (set_params block.0 (s.params block.0 ∷ʳ s.next) (made_of k ty block.0 s))) }
 {
     let b = block.0 as usize;
     let n = c.values;
@@ -114,9 +99,9 @@ pub fn append_block_param(form: &mut [u32], c: Counts, block: Block, sort: u32, 
 
 // The parameter leaves its block's list; the others keep their order.
 pub fn remove_block_param(form: &mut [u32], block: Block, val: Value)
-    requires { ⌜ Ex (Has-params (now form) (block .0)) ⌝ }
-    ensures { λ r. ⌜ ((s : Form) → Has-params (now (form .entry)) (block .0) s
-        → Cells (now (form .exit)) (set-params (block .0) (without (val .0) (s .params (block .0))) s)) ⌝ }
+    requires { Ex (HasParams form.old block.0) }
+    ensures { (s : Form) → HasParams form.old block.0 s
+        → Cells form.new (set_params block.0 (without val.0 (s.params block.0)) s) }
 {
     let b = block.0 as usize;
     rows::remove(form, PARAMS + b * PARAM_ROW, val.0);
@@ -124,8 +109,8 @@ pub fn remove_block_param(form: &mut [u32], block: Block, val: Value)
 
 // The block's parameter at a place.
 pub fn block_param(form: &[u32], block: Block, place: u32) -> Value
-    requires { ⌜ Ex (Has-param (now form) (block .0) place) ⌝ }
-    ensures { λ r. ⌜ ((s : Form) → Has-param (now (form .entry)) (block .0) place s → r .0 ≡ getD (s .params (block .0)) place 0) ⌝ }
+    requires { Ex (HasParam form.now block.0 place) }
+    ensures { (s : Form) → HasParam form.now block.0 place s → result.0 ≡ get_or (s.params block.0) place 0 }
 {
     let b = block.0 as usize;
     let k = place as usize;
@@ -134,8 +119,8 @@ pub fn block_param(form: &[u32], block: Block, place: u32) -> Value
 
 // How many of the block's parameters are the caller's: these stand first.
 pub fn own_count(form: &[u32], block: Block) -> u32
-    requires { ⌜ Ex (Has-owns (now form) (block .0)) ⌝ }
-    ensures { λ r. ⌜ ((s : Form) → Has-owns (now (form .entry)) (block .0) s → r ≡ s .owns (block .0)) ⌝ }
+    requires { Ex (HasOwns form.now block.0) }
+    ensures { (s : Form) → HasOwns form.now block.0 s → result ≡ s.owns block.0 }
 {
     let b = block.0 as usize;
     form[OWNS + b]
@@ -143,9 +128,9 @@ pub fn own_count(form: &[u32], block: Block) -> u32
 
 // One more of them, of which a block may have only so many.
 pub fn count_own(form: &mut [u32], block: Block)
-    requires { ⌜ Ex (Can-own (now form) (block .0)) ⌝ }
-    ensures { λ r. ⌜ ((s : Form) → Can-own (now (form .entry)) (block .0) s
-        → Cells (now (form .exit)) (with-owns s (put (block .0) (suc (s .owns (block .0))) (s .owns)))) ⌝ }
+    requires { Ex (CanOwn form.old block.0) }
+    ensures { (s : Form) → CanOwn form.old block.0 s
+        → Cells form.new (with_owns s (put block.0 (suc (s.owns block.0)) s.owns)) }
 {
     let b = block.0 as usize;
     form[OWNS + b] = form[OWNS + b] + 1;
@@ -153,9 +138,9 @@ pub fn count_own(form: &mut [u32], block: Block)
 
 // The value becomes another name.
 pub fn change_to_alias(form: &mut [u32], val: Value, to: Value)
-    requires { ⌜ Ex (Has-value (now form) (val .0)) ⌝ }
-    ensures { λ r. ⌜ ((s : Form) → Has-value (now (form .entry)) (val .0) s
-        → Cells (now (form .exit)) (with-target s (put (val .0) (to .0) (s .target)))) ⌝ }
+    requires { Ex (HasValue form.old val.0) }
+    ensures { (s : Form) → HasValue form.old val.0 s
+        → Cells form.new (with_target s (put val.0 to.0 s.target)) }
 {
     let i = val.0 as usize;
     form[TARGET + i] = to.0;
@@ -163,8 +148,8 @@ pub fn change_to_alias(form: &mut [u32], val: Value, to: Value)
 
 // What is recorded as the definition of the variable in the block.
 pub fn definition(form: &[u32], var: Variable, block: Block) -> OptionValue
-    requires { ⌜ Ex (Has-def (now form) (var .0) (block .0)) ⌝ }
-    ensures { λ r. ⌜ ((s : Form) → Has-def (now (form .entry)) (var .0) (block .0) s → value-of r ≡ def s (var .0) (block .0)) ⌝ }
+    requires { Ex (HasDef form.now var.0 block.0) }
+    ensures { (s : Form) → HasDef form.now var.0 block.0 s → value_of result ≡ def s var.0 block.0 }
 {
     let v = var.0 as usize;
     let b = block.0 as usize;
@@ -177,9 +162,9 @@ pub fn definition(form: &[u32], var: Variable, block: Block) -> OptionValue
 
 // The value is the definition of the variable in the block: plus one, so that value 0 is one too.
 pub fn record_def(form: &mut [u32], var: Variable, block: Block, val: Value)
-    requires { ⌜ Ex (Has-def (now form) (var .0) (block .0)) ⌝ }
-    requires { ⌜ val .0 < value-room limits ⌝ }
-    ensures { λ r. ⌜ Recorded (now (form .entry)) (now (form .exit)) (var .0) (block .0) (val .0) ⌝ }
+    requires ex { Ex (HasDef form.old var.0 block.0) }
+    requires val_bound { val.0 < value_room limits }
+    ensures { Recorded form.old form.new var.0 block.0 val.0 }
 {
     let v = var.0 as usize;
     let b = block.0 as usize;
@@ -188,9 +173,9 @@ pub fn record_def(form: &mut [u32], var: Variable, block: Block, val: Value)
 
 // Has the variable a definition in one of the first blocks?
 pub fn is_defined(form: &[u32], var: Variable, blocks: u32) -> bool
-    requires { ⌜ Ex (Has-defs (now form) (var .0) blocks) ⌝ }
-    ensures { λ r. ⌜ ((s : Form) → Has-defs (now (form .entry)) (var .0) blocks s
-        → r ≡ any (λ b. is-some (def s (var .0) b)) (upFrom 0 blocks)) ⌝ }
+    requires { Ex (HasDefs form.now var.0 blocks) }
+    ensures { (s : Form) → HasDefs form.now var.0 blocks s
+        → result ≡ any (λ b. is_some (def s var.0 b)) (up_from 0 blocks) }
 {
     let mut b: u32 = 0;
     while b < blocks {
@@ -205,9 +190,9 @@ pub fn is_defined(form: &[u32], var: Variable, blocks: u32) -> bool
 
 // A variable receives the value: if the variable is marked, stack maps must have it.
 pub fn record_stack_map_binding(form: &mut [u32], marked: bool, val: Value)
-    requires { ⌜ Ex (Has-value (now form) (val .0)) ⌝ }
-    ensures { λ r. ⌜ ((g : Graph) → (v : ℕ) → marked ≡ g .marks v → (s : Form) → Has-value (now (form .entry)) (val .0) s
-        → s .info (val .0) .type < type-count → Cells (now (form .exit)) (record-binding g v (val .0) s)) ⌝ }
+    requires { Ex (HasValue form.old val.0) }
+    ensures { (g : Graph) → (v : ℕ) → marked ≡ g.marks v → (s : Form) → HasValue form.old val.0 s
+        → (s.info val.0).type < type_count → Cells form.new (record_binding g v val.0 s) }
 {
     if !marked {
         return;
@@ -218,9 +203,9 @@ pub fn record_stack_map_binding(form: &mut [u32], marked: bool, val: Value)
 
 // The variable is pending in the block. Its parameter, any x here, is not stored again: it is found by its place among the block's.
 pub fn push_pending(form: &mut [u32], var: Variable, block: Block)
-    requires { ⌜ Ex (Can-wait (now form) (block .0)) ⌝ }
-    ensures { λ r. ⌜ ((s : Form) → Can-wait (now (form .entry)) (block .0) s → (x : ℕ)
-        → Cells (now (form .exit)) (wait (var .0) (block .0) x s)) ⌝ }
+    requires { Ex (CanWait form.old block.0) }
+    ensures { (s : Form) → CanWait form.old block.0 s → (x : ℕ)
+        → Cells form.new (wait var.0 block.0 x s) }
 {
     let b = block.0 as usize;
     rows::push(form, PENDING + b * WAIT_ROW, var.0);
@@ -228,9 +213,9 @@ pub fn push_pending(form: &mut [u32], var: Variable, block: Block)
 
 // How many variables are pending in the block.
 pub fn pending_count(form: &[u32], block: Block) -> u32
-    requires { ⌜ Ex (Has-pending (now form) (block .0)) ⌝ }
-    ensures { λ r. ⌜ (r ≤ wait-room limits) × ((s : Form) → Has-pending (now (form .entry)) (block .0) s
-        → r ≡ length (s .pending (block .0))) ⌝ }
+    requires { Ex (HasPending form.now block.0) }
+    ensures { (result ≤ wait_room limits) × ((s : Form) → HasPending form.now block.0 s
+        → result ≡ length (s.pending block.0)) }
 {
     let b = block.0 as usize;
     form[PENDING + b * WAIT_ROW]
@@ -238,10 +223,10 @@ pub fn pending_count(form: &[u32], block: Block) -> u32
 
 // Copies the block's pending variables to the front of the list.
 fn list_pending(form: &[u32], block: Block, list: &mut [u32]) -> u32
-    requires { ⌜ Ex (Has-pending (now form) (block .0)) ⌝ }
-    requires { ⌜ wait-room limits ≤ length (now list) ⌝ }
-    ensures { λ r. ⌜ (r ≤ wait-room limits) × ((s : Form) → Has-pending (now (form .entry)) (block .0) s
-        → Lists (now (list .exit)) (block .0) r s) ⌝ }
+    requires ex { Ex (HasPending form.now block.0) }
+    requires limits_in_bounds { wait_room limits ≤ length list.old }
+    ensures { (result ≤ wait_room limits) × ((s : Form) → HasPending form.now block.0 s
+        → Lists list.new block.0 result s) }
 {
     let n = pending_count(form, block);
     let b = block.0 as usize;
@@ -257,10 +242,10 @@ fn list_pending(form: &[u32], block: Block, list: &mut [u32]) -> u32
 
 // Moves the block's pending variables to the front of the list: settling them may make others pend, in other blocks.
 pub fn take_pending(form: &mut [u32], block: Block, list: &mut [u32]) -> u32
-    requires { ⌜ Ex (Has-pending (now form) (block .0)) ⌝ }
-    requires { ⌜ wait-room limits ≤ length (now list) ⌝ }
-    ensures { λ r. ⌜ (r ≤ wait-room limits)
-        × ((s : Form) → Has-pending (now (form .entry)) (block .0) s → Taken (now (form .exit)) (now (list .exit)) (block .0) r s) ⌝ }
+    requires ex { Ex (HasPending form.old block.0) }
+    requires limits_in_bounds { wait_room limits ≤ length list.old }
+    ensures { (result ≤ wait_room limits)
+        × ((s : Form) → HasPending form.old block.0 s → Taken form.new list.new block.0 result s) }
 {
     let n = list_pending(form, block, list);
     let b = block.0 as usize;
@@ -270,8 +255,8 @@ pub fn take_pending(form: &mut [u32], block: Block, list: &mut [u32]) -> u32
 
 // The parameter of the pending variable that has n - 1 others behind it: settled ones may have left the list, so count from its end.
 pub fn pending_param(form: &[u32], block: Block, n: u32) -> Value
-    requires { ⌜ ((x : ℕ) × Ex (Next-param (now form) (block .0) n x)) ⌝ }
-    ensures { λ r. ⌜ ((x : ℕ) → (s : Form) → Next-param (now (form .entry)) (block .0) n x s → r .0 ≡ x) ⌝ }
+    requires { (x : ℕ) × Ex (NextParam form.now block.0 n x) }
+    ensures { (x : ℕ) → (s : Form) → NextParam form.now block.0 n x s → result.0 ≡ x }
 {
     let b = block.0 as usize;
     let at = PARAMS + b * PARAM_ROW;
@@ -282,8 +267,8 @@ pub fn pending_param(form: &[u32], block: Block, n: u32) -> Value
 
 // This call added a zero in the block.
 pub fn log_zero(form: &mut [u32], c: Counts, block: Block)
-    requires { ⌜ Ex (Can-log (now form)) ⌝ }
-    ensures { λ r. ⌜ ((s : Form) → Can-log (now (form .entry)) s → Cells (now (form .exit)) (log-zero (c .call) (block .0) s)) ⌝ }
+    requires { Ex (CanLog form.old) }
+    ensures { (s : Form) → CanLog form.old s → Cells form.new (log_zero c.call block.0 s) }
 {
     rows::push(form, ZERO_CALLS, c.call);
     rows::push(form, ZERO_BLOCKS, block.0);
@@ -291,8 +276,8 @@ pub fn log_zero(form: &mut [u32], c: Counts, block: Block)
 
 // Mostly it is the last one placed, so that is tested first: many values in one block cost no search.
 fn is_placed(form: &[u32], block: Block) -> bool
-    requires { ⌜ Ex (Has-placed (now form)) ⌝ }
-    ensures { λ r. ⌜ ((s : Form) → Has-placed (now (form .entry)) s → r ≡ has (block .0) (s .placed)) ⌝ }
+    requires { Ex (HasPlaced form.now) }
+    ensures { (s : Form) → HasPlaced form.now s → result ≡ has block.0 s.placed }
 {
     let b = block.0;
     let n = form[PLACED] as usize;
@@ -307,8 +292,8 @@ fn is_placed(form: &[u32], block: Block) -> bool
 
 // The block is placed after the others, unless it was.
 pub fn place_block(form: &mut [u32], block: Block)
-    requires { ⌜ Ex (Can-place (now form) (block .0)) ⌝ }
-    ensures { λ r. ⌜ ((s : Form) → Can-place (now (form .entry)) (block .0) s → Cells (now (form .exit)) (place-block (block .0) s)) ⌝ }
+    requires { Ex (CanPlace form.old block.0) }
+    ensures { (s : Form) → CanPlace form.old block.0 s → Cells form.new (place_block block.0 s) }
 {
     if is_placed(form, block) {
         return;
@@ -318,8 +303,8 @@ pub fn place_block(form: &mut [u32], block: Block)
 
 // How many arguments the branch has at one of its destinations.
 pub fn argument_count(form: &[u32], branch: Branch, place: u32) -> u32
-    requires { ⌜ Ex (Has-args (now form) (branch .0) place) ⌝ }
-    ensures { λ r. ⌜ ((s : Form) → Has-args (now (form .entry)) (branch .0) place s → r ≡ length (s .args (branch .0) place)) ⌝ }
+    requires { Ex (HasArgs form.now branch.0 place) }
+    ensures { (s : Form) → HasArgs form.now branch.0 place s → result ≡ length (s.args branch.0 place) }
 {
     let p = branch.0 as usize;
     let i = place as usize;
@@ -328,9 +313,9 @@ pub fn argument_count(form: &[u32], branch: Branch, place: u32) -> u32
 
 // The value is the next argument of the branch at one of its destinations.
 pub fn append_argument(form: &mut [u32], branch: Branch, place: u32, val: Value)
-    requires { ⌜ Ex (Can-feed (now form) (branch .0) place) ⌝ }
-    ensures { λ r. ⌜ ((s : Form) → Can-feed (now (form .entry)) (branch .0) place s
-        → Cells (now (form .exit)) (with-args s (put₂ (branch .0) place (s .args (branch .0) place ∷ʳ val .0) (s .args)))) ⌝ }
+    requires { Ex (CanFeed form.old branch.0 place) }
+    ensures { (s : Form) → CanFeed form.old branch.0 place s
+        → Cells form.new (with_args s (put₂ branch.0 place (s.args branch.0 place ∷ʳ val.0) s.args)) }
 {
     let p = branch.0 as usize;
     let i = place as usize;

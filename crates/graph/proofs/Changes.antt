@@ -1,80 +1,80 @@
 -- What the cells show after each change of the graph: the law of the table that is changed; the other tables are as they were.
 -- Assumes nothing.
-use Prim.Native.Nat.{ℕ, suc, _+_, _<_}
-use mathlib.Core.Path.{_≡_, refl, _∙_}
+use Prim.Native.Nat.{ℕ, suc, ◌+◌, ◌<◌}
+use mathlib.Core.Path.{◌≡◌, refl, ◌∙◌}
 use mathlib.Core.Bool.{true}
 use mathlib.Core.List.{List}
 use native.Mathlib.Omega.{arith}
-use lib.ListN.{length, set, getD}
-use Rattle·entity.specs.Limits.{limits}
-use Rattle·definition.specs.Base.{put, position, _∷ʳ_}
-use Rattle·definition.specs.Form.{Graph, with-blocks, with-types, with-branch, with-dests, with-preds, with-declared, with-marks}
-use Rattle·definition.specs.Session.{swap-out, mark-sealed}
-use Rattle·layout.specs.Cells.{base}
-use Rattle·layout.specs.Layout.{type-row, dest-row, pred-row, graph-sizes, graph-tables}
-use Rattle·layout.specs.Rows.{Row, Pushable, pushed, swapped, seek}
-use Rattle·layout.proofs.Cells.{store}
-use Rattle·layout.proofs.Rows.{row-count, row-pushable}
-use Rattle·layout.proofs.Searches.{position-below, row-place}
-use Rattle·layout.proofs.Tables.{mark-set, list-pushed, rows-pushed, rows-swapped}
-use Rattle·graph·specs.specs.Seen.{Shown, Seen, dests-start, preds-start}
-use Rattle·graph·specs.specs.Seen.{Can-declare-variable, Can-declare-dest, Can-declare-predecessor, Can-remove-predecessor}
-use Rattle·graph·proofs.proofs.Cells.{types-row, dests-row, preds-row, preds-few, preds-room}
+use lib.ListN.{length, set, get_or}
+use Rattle.entity.specs.Limits.{limits}
+use Rattle.definition.specs.Base.{put, position, ◌∷ʳ◌}
+use Rattle.definition.specs.Form.{Graph, with_blocks, with_types, with_branch, with_dests, with_preds, with_declared, with_marks}
+use Rattle.definition.specs.Session.{swap_out, mark_sealed}
+use Rattle.layout.specs.Cells.{base}
+use Rattle.layout.specs.Layout.{type_row, dest_row, pred_row, graph_sizes, graph_tables}
+use Rattle.layout.specs.Rows.{Row, Pushable, pushed, swapped, seek}
+use Rattle.layout.proofs.Cells.{store}
+use Rattle.layout.proofs.Rows.{row_count, row_pushable}
+use Rattle.layout.proofs.Searches.{position_below, row_place}
+use Rattle.layout.proofs.Tables.{mark_set, list_pushed, rows_pushed, rows_swapped}
+use Rattle.graph.specs.Seen.{Shown, Seen, dests_start, preds_start}
+use Rattle.graph.specs.Seen.{CanDeclareVariable, CanDeclareDest, CanDeclarePredecessor, CanRemovePredecessor}
+use Rattle.graph.proofs.Cells.{types_row, dests_row, preds_row, preds_few, preds_room}
 
 module _ {cells : List ℕ} {g : Graph} (s : Seen cells g) where
-  pub block-declared : (b : ℕ) → Shown (set cells (base graph-sizes 0) (b + 1)) (with-blocks g (suc b))
-  block-declared b = store graph-sizes cells (graph-tables g) 0 (s .cells) 0 (b + 1) (λ i. suc b) (omega arith) (omega arith) (omega arith) (λ i lt n. absurd (n (omega arith)))
+  pub block_declared : (b : ℕ) → Shown (set cells (base graph_sizes 0) (b + 1)) (with_blocks g (suc b))
+  block_declared b = store graph_sizes cells (graph_tables g) 0 s.cells 0 (b + 1) (λ i. suc b) (omega arith) (omega arith) (omega arith) (λ i lt n. absurd (n (omega arith)))
 
-  pub branch-declared : (b : ℕ) → b < limits .blocks → Shown (set cells (base graph-sizes 2 + b) 1) (with-branch g (put b true (g .branch)))
-  branch-declared b lb = mark-set graph-sizes cells (graph-tables g) 2 (s .cells) (omega arith) (g .branch) b refl lb
+  pub branch_declared : (b : ℕ) → b < limits.blocks → Shown (set cells (base graph_sizes 2 + b) 1) (with_branch g (put b true g.branch))
+  branch_declared b lb = mark_set graph_sizes cells (graph_tables g) 2 s.cells (omega arith) g.branch b refl lb
 
-  pub block-sealed : (b : ℕ) → b < limits .blocks → Shown (set cells (base graph-sizes 3 + b) 1) (mark-sealed g b)
-  block-sealed b lb = mark-set graph-sizes cells (graph-tables g) 3 (s .cells) (omega arith) (g .sealed) b refl lb
+  pub block_sealed : (b : ℕ) → b < limits.blocks → Shown (set cells (base graph_sizes 3 + b) 1) (mark_sealed g b)
+  block_sealed b lb = mark_set graph_sizes cells (graph_tables g) 3 s.cells (omega arith) g.sealed b refl lb
 
-  pub variable-marked : (v : ℕ) → v < limits .variables → Shown (set cells (base graph-sizes 5 + v) 1) (with-marks g (put v true (g .marks)))
-  variable-marked v lv = mark-set graph-sizes cells (graph-tables g) 5 (s .cells) (omega arith) (g .marks) v refl lv
+  pub variable_marked : (v : ℕ) → v < limits.variables → Shown (set cells (base graph_sizes 5 + v) 1) (with_marks g (put v true g.marks))
+  variable_marked v lv = mark_set graph_sizes cells (graph_tables g) 5 s.cells (omega arith) g.marks v refl lv
 
-module _ {cells : List ℕ} {g : Graph} (s : Can-declare-variable cells g) where
-  pub variable-room : Pushable cells (base graph-sizes 1)
-  variable-room = row-pushable cells (base graph-sizes 1) type-row (g .types) (types-row (s .seen)) (omega (arith, s .room)) (omega (arith, s .room))
+module _ {cells : List ℕ} {g : Graph} (s : CanDeclareVariable cells g) where
+  pub variable_room : Pushable cells (base graph_sizes 1)
+  variable_room = row_pushable cells (base graph_sizes 1) type_row g.types (types_row s.seen) (omega (arith, s.room)) (omega (arith, s.room))
 
-  pub variable-declared : (ty : ℕ) → Shown (pushed cells (base graph-sizes 1) ty) (with-types g (g .types ∷ʳ ty))
-  variable-declared ty = list-pushed graph-sizes cells (graph-tables g) 1 (s .seen .cells) (omega arith) (g .types) ty refl (omega (arith, s .room))
+  pub variable_declared : (ty : ℕ) → Shown (pushed cells (base graph_sizes 1) ty) (with_types g (g.types ∷ʳ ty))
+  variable_declared ty = list_pushed graph_sizes cells (graph_tables g) 1 s.seen.cells (omega arith) g.types ty refl (omega (arith, s.room))
 
-module _ {cells : List ℕ} {g : Graph} {a : ℕ} (p : ℕ) (s : Can-declare-dest cells p g) (lp : p < limits .blocks) (e : a ≡ dests-start p) where
-  pub dest-room : Pushable cells a
-  dest-room = row-pushable cells a dest-row (g .dests p) (dests-row (s .seen) p lp e) (omega (arith, s .room)) (omega (arith, s .room))
+module _ {cells : List ℕ} {g : Graph} {a : ℕ} (p : ℕ) (s : CanDeclareDest cells p g) (lp : p < limits.blocks) (e : a ≡ dests_start p) where
+  pub dest_room : Pushable cells a
+  dest_room = row_pushable cells a dest_row (g.dests p) (dests_row s.seen p lp e) (omega (arith, s.room)) (omega (arith, s.room))
 
-  pub dest-declared : (b : ℕ) → Shown (pushed cells a b) (with-dests g (put p (g .dests p ∷ʳ b) (g .dests)))
-  dest-declared b = rw e (rows-pushed graph-sizes cells (graph-tables g) 6 (s .seen .cells) (omega arith) dest-row (g .dests) p refl (omega arith) b (omega (arith, s .room)))
+  pub dest_declared : (b : ℕ) → Shown (pushed cells a b) (with_dests g (put p (g.dests p ∷ʳ b) g.dests))
+  dest_declared b = rw e (rows_pushed graph_sizes cells (graph_tables g) 6 s.seen.cells (omega arith) dest_row g.dests p refl (omega arith) b (omega (arith, s.room)))
 
-module _ {cells : List ℕ} {g : Graph} {a : ℕ} (b : ℕ) (lb : b < limits .blocks) (e : a ≡ preds-start b) (p : ℕ) where
-  module _ (s : Can-declare-predecessor cells b p g) (lp : p < limits .blocks) where
-    few : length (g .preds b) < limits .blocks
-    few = preds-room (s .seen) b p lp (s .new)
+module _ {cells : List ℕ} {g : Graph} {a : ℕ} (b : ℕ) (lb : b < limits.blocks) (e : a ≡ preds_start b) (p : ℕ) where
+  module _ (s : CanDeclarePredecessor cells b p g) (lp : p < limits.blocks) where
+    few : length (g.preds b) < limits.blocks
+    few = preds_room s.seen b p lp s.new
 
-    pub predecessor-room : Pushable cells a
-    predecessor-room = row-pushable cells a pred-row (g .preds b) (preds-row (s .seen) b lb e) (omega (arith, few)) (omega (arith, few))
+    pub predecessor_room : Pushable cells a
+    predecessor_room = row_pushable cells a pred_row (g.preds b) (preds_row s.seen b lb e) (omega (arith, few)) (omega (arith, few))
 
-    pushed-there : Shown (pushed cells a p) (with-preds g (put b (g .preds b ∷ʳ p) (g .preds)))
-    pushed-there = rw e (rows-pushed graph-sizes cells (graph-tables g) 7 (s .seen .cells) (omega arith) pred-row (g .preds) b refl (omega arith) p (omega (arith, few)))
+    pushed_there : Shown (pushed cells a p) (with_preds g (put b (g.preds b ∷ʳ p) g.preds))
+    pushed_there = rw e (rows_pushed graph_sizes cells (graph_tables g) 7 s.seen.cells (omega arith) pred_row g.preds b refl (omega arith) p (omega (arith, few)))
 
-    pub predecessor-declared : Shown (set (pushed cells a p) (base graph-sizes 4 + p) 1) (with-declared (with-preds g (put b (g .preds b ∷ʳ p) (g .preds))) (put p true (g .declared)))
-    predecessor-declared = mark-set graph-sizes (pushed cells a p) (graph-tables (with-preds g (put b (g .preds b ∷ʳ p) (g .preds)))) 4 pushed-there (omega arith) (g .declared) p refl lp
+    pub predecessor_declared : Shown (set (pushed cells a p) (base graph_sizes 4 + p) 1) (with_declared (with_preds g (put b (g.preds b ∷ʳ p) g.preds)) (put p true g.declared))
+    predecessor_declared = mark_set graph_sizes (pushed cells a p) (graph_tables (with_preds g (put b (g.preds b ∷ʳ p) g.preds))) 4 pushed_there (omega arith) g.declared p refl lp
 
   -- k is where the search ends
-  module _ (s : Can-remove-predecessor cells b p g) (k : ℕ) (found : k ≡ seek cells a p (getD cells a 0) 0) where
-    row : Row cells a pred-row (g .preds b)
-    row = preds-row (s .seen) b lb e
+  module _ (s : CanRemovePredecessor cells b p g) (k : ℕ) (found : k ≡ seek cells a p (get_or cells a 0) 0) where
+    row : Row cells a pred_row (g.preds b)
+    row = preds_row s.seen b lb e
 
-    pub predecessor-place : k ≡ position 0 p (g .preds b)
-    predecessor-place = found ∙ row-place cells a pred-row (g .preds b) row p
+    pub predecessor_place : k ≡ position 0 p (g.preds b)
+    predecessor_place = found ∙ row_place cells a pred_row (g.preds b) row p
 
-    pub place-taken : k < getD cells a 0
-    place-taken = omega (arith, predecessor-place, position-below p (g .preds b) (s .there), row-count cells a pred-row (g .preds b) row)
+    pub place_taken : k < get_or cells a 0
+    place_taken = omega (arith, predecessor_place, position_below p (g.preds b) s.there, row_count cells a pred_row (g.preds b) row)
 
-    pub predecessor-removed : Shown (swapped cells a k) (with-preds g (put b (swap-out p (g .preds b)) (g .preds)))
-    predecessor-removed =
-        rw (predecessor-place, e)
-        (rows-swapped graph-sizes cells (graph-tables g) 7 (s .seen .cells) (omega arith) pred-row (g .preds) b refl (omega arith) p
-        (omega (arith, preds-few (s .seen) b)) (s .seen .sound .nodup b) (s .there))
+    pub predecessor_removed : Shown (swapped cells a k) (with_preds g (put b (swap_out p (g.preds b)) g.preds))
+    predecessor_removed =
+        rw (predecessor_place, e)
+        (rows_swapped graph_sizes cells (graph_tables g) 7 s.seen.cells (omega arith) pred_row g.preds b refl (omega arith) p
+        (omega (arith, preds_few s.seen b)) (s.seen.sound.nodup b) s.there)

@@ -1,24 +1,20 @@
 -- What the functions ask of the lent cells: that they show a graph that is sound and within the limits, as every session's graph is.
 -- Assumes nothing.
-use Prim.Native.Nat.{ℕ, _+_, _*_, _<_}
-use mathlib.Core.Path.{_≡_}
-use mathlib.Core.Bool.{true, false}
-use mathlib.Core.List.{List}
-use lib.ListN.{length}
-use Rattle·entity.specs.Limits.{limits}
-use Rattle·definition.specs.Base.{has}
-use Rattle·definition.specs.Form.{Graph}
-use Rattle·meaning.proofs.Ranges.{Bounds}
-use Rattle·meaning.proofs.Reading.{Sound}
-use Rattle·layout.specs.Cells.{base, Holds}
-use Rattle·layout.specs.Layout.{dest-row, pred-row, graph-sizes, graph-tables}
+use Rattle.std.specs.Prelude.{ℕ, ◌+◌, ◌*◌, ◌<◌, ◌≡◌, true, false, List, length}
+use Rattle.entity.specs.Limits.{limits}
+use Rattle.definition.specs.Base.{has}
+use Rattle.definition.specs.Form.{Graph}
+use Rattle.meaning.proofs.Ranges.{Bounds}
+use Rattle.meaning.proofs.Reading.{Sound}
+use Rattle.layout.specs.Cells.{base, Holds}
+use Rattle.layout.specs.Layout.{dest_row, pred_row, graph_sizes, graph_tables}
 
 -- there is a graph such that
-abbrev pub Graph-with : (Graph → Type 0) → Type 0
-Graph-with P = (g : Graph) × P g
+abbrev pub GraphWith : (Graph → Type 0) → Type 0
+GraphWith P = (g : Graph) × P g
 
 abbrev pub Shown : List ℕ → Graph → Type 0
-Shown lent g = Holds graph-sizes lent (graph-tables g)
+Shown lent g = Holds graph_sizes lent (graph_tables g)
 
 pub record Seen (lent : List ℕ) (g : Graph) : Type 0 where
   pub cells : Shown lent g
@@ -26,26 +22,26 @@ pub record Seen (lent : List ℕ) (g : Graph) : Type 0 where
   pub sound : Sound g
 
 -- and there is room for one more variable; for one more destination of branch p
-pub record Can-declare-variable (lent : List ℕ) (g : Graph) : Type 0 where
+pub record CanDeclareVariable (lent : List ℕ) (g : Graph) : Type 0 where
   pub seen : Seen lent g
-  pub room : length (g .types) < limits .variables
+  pub room : length g.types < limits.variables
 
-pub record Can-declare-dest (lent : List ℕ) (p : ℕ) (g : Graph) : Type 0 where
+pub record CanDeclareDest (lent : List ℕ) (p : ℕ) (g : Graph) : Type 0 where
   pub seen : Seen lent g
-  pub room : length (g .dests p) < limits .dests
+  pub room : length (g.dests p) < limits.dests
 
 -- branch p is not yet declared to block b; it is
-pub record Can-declare-predecessor (lent : List ℕ) (b p : ℕ) (g : Graph) : Type 0 where
+pub record CanDeclarePredecessor (lent : List ℕ) (b p : ℕ) (g : Graph) : Type 0 where
   pub seen : Seen lent g
-  pub new : has p (g .preds b) ≡ false
+  pub new : has p (g.preds b) ≡ false
 
-pub record Can-remove-predecessor (lent : List ℕ) (b p : ℕ) (g : Graph) : Type 0 where
+pub record CanRemovePredecessor (lent : List ℕ) (b p : ℕ) (g : Graph) : Type 0 where
   pub seen : Seen lent g
-  pub there : has p (g .preds b) ≡ true
+  pub there : has p (g.preds b) ≡ true
 
 -- where the row of a branch's destinations starts, and that of a block's predecessors
-abbrev pub dests-start : ℕ → ℕ
-dests-start p = base graph-sizes 6 + p * dest-row
+abbrev pub dests_start : ℕ → ℕ
+dests_start p = base graph_sizes 6 + p * dest_row
 
-abbrev pub preds-start : ℕ → ℕ
-preds-start b = base graph-sizes 7 + b * pred-row
+abbrev pub preds_start : ℕ → ℕ
+preds_start b = base graph_sizes 7 + b * pred_row

@@ -1,5 +1,6 @@
 // A line of numbers, read byte by byte.
 
+#[derive(Clone, Copy)]
 pub struct Line {
     // The line's number, and that of its latest byte, both from 1.
     pub place: u64,

@@ -3,6 +3,7 @@ use crate::line;
 use crate::line::Line;
 
 // Where the reading stands.
+#[derive(Clone, Copy)]
 pub struct Reading {
     pub line: Line,
     // Is a list under way? If not, the next line tells how many calls it has.

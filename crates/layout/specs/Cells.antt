@@ -1,11 +1,7 @@
 -- Tables one after the other in lent cells. A table says what number each of its cells holds.
 -- Assumes nothing.
-use Prim.Native.Nat.{ℕ, zero, suc, _+_, _/_, _%_, _≤_, _<_}
-use mathlib.Core.Path.{_≡_}
-use mathlib.Core.List.{List, [], _∷_, _++_}
-use mathlib.Core.Bool.{cond}
-use lib.Dec.{ltb}
-use lib.ListN.{length, getD, take}
+use Rattle.std.specs.Prelude.{ℕ, zero, suc, ◌+◌, ◌/◌, ◌%◌, ◌≤◌, ◌<◌}
+use Rattle.std.specs.Prelude.{◌≡◌, List, [], ◌∷◌, ◌++◌, cond, ltb, length, get_or, take}
 
 abbrev pub Table : Type 0
 Table = ℕ → ℕ
@@ -35,7 +31,7 @@ render (n ∷ ns) (f ∷ fs) = line n f ++ render ns fs
 -- The cells hold these tables; there may be more cells. Of exactly the length there is one such list: `render sizes tables`.
 pub record Holds (sizes cells : List ℕ) (tables : List Table) : Type 0 where
   pub long : sum sizes ≤ length cells
-  pub at : (t j : ℕ) → j < getD sizes t 0 → getD cells (base sizes t + j) 0 ≡ getD tables t blank j
+  pub at : (t j : ℕ) → j < get_or sizes t 0 → get_or cells (base sizes t + j) 0 ≡ get_or tables t blank j
 
 -- a table of rows of w cells
 abbrev pub grid : ℕ → (ℕ → Table) → Table
@@ -43,7 +39,7 @@ grid w f j = f (j / w) (j % w)
 
 -- a row that holds a list: its count, its entries, zeros
 abbrev pub cell : List ℕ → Table
-cell xs i = getD (length xs ∷ xs) i 0
+cell xs i = get_or (length xs ∷ xs) i 0
 
 -- a table of such rows
 abbrev pub rows : ℕ → (ℕ → List ℕ) → Table

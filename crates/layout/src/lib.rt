@@ -1,13 +1,13 @@
 // Which lent cell holds what: where each table starts, and the counts that travel beside the cells. The laws are in proofs/.
-ghost use mathlib.Core.Path.{_≡_};
-ghost use Prim.Native.Nat.{_<_, _≤_};
-ghost use Rattle·entity.specs.Limits.{limits, value-room, call-room, result-room};
-ghost use Rattle·layout·specs.specs.Counts.{more, with-values, one-call, call-less, one-result, results-less};
-ghost use Rattle·layout·specs.specs.Layout.{graph-sizes, form-sizes, work-sizes};
-ghost use Rattle·layout·specs.specs.Offsets.{starts};
-use entity::Block;
-use entity::Branch;
-use entity::Value;
+#![tactic(auto)]
+
+ghost use Rattle.std.specs.Prelude.{◌≡◌, ◌<◌, ◌≤◌};
+ghost use Rattle.entity.specs.Limits.{limits, value_room, call_room, result_room};
+ghost use Rattle.layout.specs.Counts.{more, with_values, one_call, call_less, one_result, results_less};
+ghost use Rattle.layout.specs.Layout.{graph_sizes, form_sizes, work_sizes};
+ghost use Rattle.layout.specs.Offsets.{starts};
+
+use entity::{Block, Branch, Value};
 
 // Where each table of the graph starts.
 pub const BLOCK_COUNT: usize = 0;
@@ -60,7 +60,7 @@ pub const RESULTS: usize = CALL_BLOCKS + entity::CALL_ROOM;
 
 // The starts for a host, and last the need. Their contracts hold each constant above to the sizes that the specs work out.
 pub fn graph_starts() -> [usize; 9]
-    ensures { λ r. ⌜ r ≡ starts graph-sizes ⌝ }
+    ensures { result ≡ starts graph_sizes }
 {
     [
         BLOCK_COUNT,
@@ -76,7 +76,7 @@ pub fn graph_starts() -> [usize; 9]
 }
 
 pub fn form_starts() -> [usize; 13]
-    ensures { λ r. ⌜ r ≡ starts form-sizes ⌝ }
+    ensures { result ≡ starts form_sizes }
 {
     [
         VALUE_COUNT,
@@ -96,12 +96,13 @@ pub fn form_starts() -> [usize; 13]
 }
 
 pub fn work_starts() -> [usize; 4]
-    ensures { λ r. ⌜ r ≡ starts work-sizes ⌝ }
+    ensures { result ≡ starts work_sizes }
 {
     [CALL_VALUES, CALL_BLOCKS, RESULTS, entity::WORK_NEED]
 }
 
 // A scheduled call of the lookup machine: read at a branch's block, or settle the parameter of a block by its predecessors' results.
+#[derive(Clone, Copy)]
 pub enum Call {
     UseVar(Branch),
     FinishPredecessorsLookup(Value, Block),
@@ -109,6 +110,7 @@ pub enum Call {
 
 // The heights of the two work stacks, how many values there are, and the number of this call. They travel by value beside the cells.
 // Heights are as wide as a register, so that a push doesn't have to take a pair of them apart.
+#[derive(Clone, Copy)]
 pub struct Counts {
     pub calls: usize,
     pub results: usize,
@@ -119,8 +121,8 @@ pub struct Counts {
 impl Counts {
     // One value more: the caller knows that a variable causes at most one parameter and one zero per block.
     pub fn allot(mut self) -> Counts
-        requires { ⌜ self .values < value-room limits ⌝ }
-        ensures { λ r. ⌜ r ≡ more self ⌝ }
+        requires { self.values < value_room limits }
+        ensures { result ≡ more self }
     {
         self.values = self.values + 1;
         self
@@ -128,31 +130,31 @@ impl Counts {
 
     // A run of the lookup machine leaves the stacks as it found them, so what it hands back is the count of values.
     pub fn with_values(mut self, n: u32) -> Counts
-        ensures { λ r. ⌜ r ≡ with-values n self ⌝ }
+        ensures { result ≡ with_values n self }
     {
         self.values = n;
         self
     }
 
     pub fn push_call(mut self) -> Counts
-        requires { ⌜ self .calls < call-room limits ⌝ }
-        ensures { λ r. ⌜ r ≡ one-call self ⌝ }
+        requires { self.calls < call_room limits }
+        ensures { result ≡ one_call self }
     {
         self.calls = self.calls + 1;
         self
     }
 
     pub fn pop_call(mut self) -> Counts
-        requires { ⌜ 0 < self .calls ⌝ }
-        ensures { λ r. ⌜ r ≡ call-less self ⌝ }
+        requires { 0 < self.calls }
+        ensures { result ≡ call_less self }
     {
         self.calls = self.calls - 1;
         self
     }
 
     pub fn push_result(mut self) -> Counts
-        requires { ⌜ self .results < result-room limits ⌝ }
-        ensures { λ r. ⌜ r ≡ one-result self ⌝ }
+        requires { self.results < result_room limits }
+        ensures { result ≡ one_result self }
     {
         self.results = self.results + 1;
         self
@@ -160,8 +162,8 @@ impl Counts {
 
     // The results of a block's predecessors leave at once.
     pub fn pop_results(mut self, n: u32) -> Counts
-        requires { ⌜ n ≤ self .results ⌝ }
-        ensures { λ r. ⌜ r ≡ results-less n self ⌝ }
+        requires { n ≤ self.results }
+        ensures { result ≡ results_less n self }
     {
         self.results = self.results - n as usize;
         self

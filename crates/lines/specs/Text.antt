@@ -6,12 +6,10 @@
 --   b1 -> b1 [label="v2"];
 --   }
 -- Assumes nothing.
-use Prim.Native.Nat.{ℕ, zero, suc, _+_, _/_, _%_}
+use Rattle.std.specs.Prelude.{ℕ, zero, suc, ◌+◌, ◌/◌, ◌%◌, List, [], ◌∷◌, ◌++◌, length, get_or, if◌then◌else◌}
 use Prim.Native.Char.{code}
-use Prim.Native.String.{String, [] as nothing, _∷_ as _then_}
-use mathlib.Core.List.{List, [], _∷_, _++_}
-use lib.ListN.{length, getD}
-use Rattle·definition.specs.Base.{_<?_, if_then_else_, _∷ʳ_, upFrom}
+use Prim.Native.String.{String, [] as nothing, ◌∷◌ as ◌then◌}
+use Rattle.definition.specs.Base.{◌<?◌, ◌∷ʳ◌, up_from}
 
 -- what is drawn
 pub record Picture : Type 0 where
@@ -49,20 +47,20 @@ values [] = []
 values (x ∷ xs) = named "v" x ++ each (named ",v") xs
 
 -- b1 [label="b1(v1,v3)"];
-unfoldable pub block-line : ℕ → List ℕ → List ℕ
-block-line b ps = named "b" b ++ named " [label=\"b" b ++ bytes "(" ++ values ps ++ bytes ")\"];\n"
+unfoldable pub block_line : ℕ → List ℕ → List ℕ
+block_line b ps = named "b" b ++ named " [label=\"b" b ++ bytes "(" ++ values ps ++ bytes ")\"];\n"
 
 -- b0 -> b1 [label="v0"];
-unfoldable pub edge-line : ℕ → ℕ → List ℕ → List ℕ
-edge-line b c us = named "b" b ++ named " -> b" c ++ bytes " [label=\"" ++ values us ++ bytes "\"];\n"
+unfoldable pub edge_line : ℕ → ℕ → List ℕ → List ℕ
+edge_line b c us = named "b" b ++ named " -> b" c ++ bytes " [label=\"" ++ values us ++ bytes "\"];\n"
 
 module _ (p : Picture) where
   -- the lines of a block's branch, by the place of the destination
-  abbrev pub edge-lines : ℕ → List ℕ
-  edge-lines b = each (λ i. edge-line b (getD (p .dests b) i 0) (p .args b i)) (upFrom 0 (length (p .dests b)))
+  abbrev pub edge_lines : ℕ → List ℕ
+  edge_lines b = each (λ i. edge_line b (get_or (p.dests b) i 0) (p.args b i)) (up_from 0 (length (p.dests b)))
 
   -- the blocks in number order, then the edges by branching block and place
   abbrev pub text : List ℕ
   text =
-      let blocks = upFrom 0 (p .blocks) in
-      bytes "digraph f {\n" ++ each (λ b. block-line b (p .params b)) blocks ++ each edge-lines blocks ++ bytes "}\n"
+      let blocks = up_from 0 p.blocks in
+      bytes "digraph f {\n" ++ each (λ b. block_line b (p.params b)) blocks ++ each edge_lines blocks ++ bytes "}\n"

@@ -1,30 +1,28 @@
 // Looking a variable up: a visit of a block finds its definition along single predecessors, or makes a parameter and schedules what settles it.
-ghost use mathlib.Core.Path.{_≡_};
-ghost use mathlib.Core.List.{List};
-ghost use Prim.Native.Nat.{ℕ, _<_};
-ghost use Rattle·entity.specs.Limits.{limits, value-room};
-ghost use Rattle·definition.specs.Form.{Graph, Form};
-ghost use Rattle·definition.specs.Read.{mark};
-ghost use Rattle·meaning.specs.Machine.{Task, schedule};
-ghost use Rattle·layout.specs.Layout.{Stacks};
-ghost use Rattle·form.specs.Can.{Cells};
-ghost use Rattle·lookup·specs.specs.Walk.{Walk-with, Can-walk, whole-walk, Stops, Copy-with, Can-copy};
-ghost use Rattle·lookup·specs.specs.Find.{All-with, Can-use, Visits, Can-find, Finds, Begin-with, Can-begin};
-use entity::Block;
-use entity::OptionBlock;
-use entity::OptionValue;
-use entity::Value;
-use entity::Variable;
-use layout::Call;
-use layout::Counts;
+#![tactic(auto)]
+
+ghost use Rattle.std.specs.Prelude.{◌≡◌, List, ℕ, ◌<◌};
+ghost use Rattle.entity.specs.Limits.{limits, value_room};
+ghost use Rattle.definition.specs.Form.{Graph, Form};
+ghost use Rattle.definition.specs.Read.{mark};
+ghost use Rattle.meaning.specs.Machine.{Task, schedule};
+ghost use Rattle.layout.specs.Layout.{Stacks};
+ghost use Rattle.form.specs.Can.{Cells};
+ghost use Rattle.lookup.specs.Walk.{WalkWith, CanWalk, whole_walk, Stops, CopyWith, CanCopy};
+ghost use Rattle.lookup.specs.Find.{AllWith, CanUse, Visits, CanFind, Finds, BeginWith, CanBegin};
+
+use entity::{Block, OptionBlock, OptionValue, Value, Variable};
+use layout::{Call, Counts};
 
 // Where a walk stopped, and the definition that it met there.
+#[derive(Clone, Copy)]
 pub struct Stop {
     pub block: Block,
     pub value: OptionValue,
 }
 
 // The definition found, the block that it comes from, and the counts after.
+#[derive(Clone, Copy)]
 pub struct Found(pub Value, pub Block, pub Counts);
 
 // Puts the value of the variable in the block on the stack of results, or schedules what finds it.
@@ -37,10 +35,10 @@ pub fn use_var_nonlocal(
     ty: u32,
     block: Block,
 ) -> Counts
-    requires { ⌜ All-with (Can-use (now graph) (now form) (now work) c (var .0) ty (block .0)) ⌝ }
-    ensures { λ r. ⌜ ((g : Graph) → (s : Form) → (ts : List Task) → (rs : List ℕ)
-        → Can-use (now (graph .entry)) (now (form .entry)) (now (work .entry)) c (var .0) ty (block .0) g s ts rs
-        → Visits (now (form .exit)) (now (work .exit)) (c .call) r (var .0) (block .0) g s ts rs) ⌝ }
+    requires { AllWith (CanUse graph.now form.old work.old c var.0 ty block.0) }
+    ensures { (g : Graph) → (s : Form) → (ts : List Task) → (rs : List ℕ)
+        → CanUse graph.now form.old work.old c var.0 ty block.0 g s ts rs
+        → Visits form.new work.new c.call result var.0 block.0 g s ts rs }
 {
     let here = form::definition(form, var, block);
     if let OptionValue::Some(val) = here {
@@ -57,11 +55,11 @@ pub fn use_var_nonlocal(
 // Records the value in each block from the first up to the first meeting with `from`, which is left alone: on a ring of single predecessors it may be
 // met again, and it has the value already.
 fn copy_back(graph: &[u32], form: &mut [u32], var: Variable, block: Block, from: Block, val: Value)
-    requires { ⌜ Copy-with (Can-copy (now graph) (now form) (var .0) (block .0) (from .0)) ⌝ }
-    requires { ⌜ val .0 < value-room limits ⌝ }
-    ensures { λ r. ⌜ ((g : Graph) → (s : Form) → (bs : List ℕ)
-        → Can-copy (now (graph .entry)) (now (form .entry)) (var .0) (block .0) (from .0) g s bs
-        → Cells (now (form .exit)) (mark (var .0) (val .0) bs s)) ⌝ }
+    requires copy_with { CopyWith (CanCopy graph.now form.old var.0 block.0 from.0) }
+    requires val_bound { val.0 < value_room limits }
+    ensures { (g : Graph) → (s : Form) → (bs : List ℕ)
+        → CanCopy graph.now form.old var.0 block.0 from.0 g s bs
+        → Cells form.new (mark var.0 val.0 bs s) }
 {
     let mut b = block;
     while b.0 != from.0 {
@@ -76,9 +74,9 @@ fn copy_back(graph: &[u32], form: &mut [u32], var: Variable, block: Block, from:
 
 // Walks over single predecessors until a definition, a block met before, or a block without one. Each step costs the same: what was met is marked.
 fn walk(graph: &[u32], form: &[u32], var: Variable, block: Block) -> Stop
-    requires { ⌜ Walk-with (Can-walk (now graph) (now form) (var .0) (block .0)) ⌝ }
-    ensures { λ r. ⌜ ((g : Graph) → (s : Form) → Can-walk (now (graph .entry)) (now (form .entry)) (var .0) (block .0) g s
-        → Stops r (whole-walk g (var .0) (block .0) s)) ⌝ }
+    requires { WalkWith (CanWalk graph.now form.now var.0 block.0) }
+    ensures { (g : Graph) → (s : Form) → CanWalk graph.now form.now var.0 block.0 g s
+        → Stops result (whole_walk g var.0 block.0 s) }
 {
     let mut visited = [false; entity::BLOCKS as usize];
     let mut b = block;
@@ -120,10 +118,10 @@ fn find_var(
     ty: u32,
     block: Block,
 ) -> Found
-    requires { ⌜ All-with (Can-find (now graph) (now form) (now work) c (var .0) ty (block .0)) ⌝ }
-    ensures { λ r. ⌜ ((g : Graph) → (s : Form) → (ts : List Task) → (rs : List ℕ)
-        → Can-find (now (graph .entry)) (now (form .entry)) (now (work .entry)) c (var .0) ty (block .0) g s ts rs
-        → Finds (now (form .exit)) (now (work .exit)) (c .call) r (var .0) (block .0) g s ts rs) ⌝ }
+    requires { AllWith (CanFind graph.now form.old work.old c var.0 ty block.0) }
+    ensures { (g : Graph) → (s : Form) → (ts : List Task) → (rs : List ℕ)
+        → CanFind graph.now form.old work.old c var.0 ty block.0 g s ts rs
+        → Finds form.new work.new c.call result var.0 block.0 g s ts rs }
 {
     let stop = walk(graph, form, var, block);
     let from = stop.block;
@@ -154,10 +152,10 @@ pub fn begin_predecessors_lookup(
     sentinel: Value,
     dest: Block,
 ) -> Counts
-    requires { ⌜ Begin-with (Can-begin (now graph) (now work) c (sentinel .0) (dest .0)) ⌝ }
-    ensures { λ r. ⌜ (r .values ≡ c .values) × (r .call ≡ c .call)
-        × ((g : Graph) → (ts : List Task) → (rs : List ℕ) → Can-begin (now (graph .entry)) (now (work .entry)) c (sentinel .0) (dest .0) g ts rs
-        → Stacks (now (work .exit)) r (schedule g (sentinel .0) (dest .0) ts) rs) ⌝ }
+    requires { BeginWith (CanBegin graph.now work.old c sentinel.0 dest.0) }
+    ensures { (result.values ≡ c.values) × (result.call ≡ c.call)
+        × ((g : Graph) → (ts : List Task) → (rs : List ℕ) → CanBegin graph.now work.old c sentinel.0 dest.0 g ts rs
+        → Stacks work.new result (schedule g sentinel.0 dest.0 ts) rs) }
 {
     let mut d = work::push_call(work, c, Call::FinishPredecessorsLookup(sentinel, dest));
     let mut i = graph::predecessor_count(graph, dest);

@@ -1,25 +1,21 @@
 -- Demand 3 without one of its suppositions.
 -- Assumes nothing.
-use Prim.Native.Nat.{ℕ}
-use mathlib.Core.Logic.{_≢_}
-use mathlib.Core.Bool.{Bool, _&&_, _||_}
-use mathlib.Core.List.{List}
-use lib.Dec.{eqb}
-use Rattle·definition.specs.Session.{Call, State, session}
-use Rattle·meaning·specs.specs.Path.{All-sealed, None-enters-0, All-declared, Own-values, Own-args, Right}
-use Rattle·meaning·specs.specs.Suppositions.{all-sealed?, none-enters-0?, all-declared?, own-values?, own-args?}
+use Rattle.std.specs.Prelude.{ℕ, ◌≢◌, Bool, ◌&&◌, ◌||◌, List, eqb}
+use Rattle.definition.specs.Session.{Call, State, session}
+use Rattle.meaning.specs.Path.{AllSealed, NoneEnters0, AllDeclared, OwnValues, OwnArgs, Right}
+use Rattle.meaning.specs.Suppositions.{all_sealed?, none_enters_0?, all_declared?, own_values?, own_args?}
 
 -- the suppositions, counted from 1, but the one at k
-pub record Supposed-but (k : ℕ) (t : State) : Type 0 where
-  pub all-sealed : k ≢ 1 → All-sealed t
-  pub none-enters-0 : k ≢ 2 → None-enters-0 t
-  pub all-declared : k ≢ 3 → All-declared t
-  pub own-values : k ≢ 4 → Own-values t
-  pub own-args : k ≢ 5 → Own-args t
+pub record SupposedBut (k : ℕ) (t : State) : Type 0 where
+  pub all_sealed : k ≢ 1 → AllSealed t
+  pub none_enters_0 : k ≢ 2 → NoneEnters0 t
+  pub all_declared : k ≢ 3 → AllDeclared t
+  pub own_values : k ≢ 4 → OwnValues t
+  pub own_args : k ≢ 5 → OwnArgs t
 
-abbrev pub supposed-but? : ℕ → State → Bool
-supposed-but? k t =
-    (eqb k 1 || all-sealed? t) && (eqb k 2 || none-enters-0? t) && (eqb k 3 || all-declared? t) && (eqb k 4 || own-values? t) && (eqb k 5 || own-args? t)
+abbrev pub supposed_but? : ℕ → State → Bool
+supposed_but? k t =
+    (eqb k 1 || all_sealed? t) && (eqb k 2 || none_enters_0? t) && (eqb k 3 || all_declared? t) && (eqb k 4 || own_values? t) && (eqb k 5 || own_args? t)
 
-abbrev pub Demand-3-but : ℕ → Type 1
-Demand-3-but k = (cs : List Call) → Supposed-but k (session cs) → Right (session cs)
+abbrev pub Demand3But : ℕ → Type 1
+Demand3But k = (cs : List Call) → SupposedBut k (session cs) → Right (session cs)

@@ -1,12 +1,9 @@
 -- The suppositions of demand 3, each decided by looking at the finished session.
 -- Assumes nothing.
-use Prim.Native.Nat.{ℕ, zero, suc}
-use mathlib.Core.Bool.{Bool, true, not, _&&_, _||_}
-use mathlib.Core.List.{List, [], _∷_}
-use lib.ListN.{length, getD}
-use Rattle·definition.specs.Base.{has, every, _=?_}
-use Rattle·definition.specs.Session.{State}
-use Rattle·meaning·specs.specs.Path.{Act, makes, gives, uses, acts, given, callers}
+use Rattle.std.specs.Prelude.{ℕ, zero, suc, Bool, true, not, ◌&&◌, ◌||◌, List, [], ◌∷◌, length, get_or}
+use Rattle.definition.specs.Base.{has, every, ◌=?◌}
+use Rattle.definition.specs.Session.{State}
+use Rattle.meaning.specs.Path.{Act, makes, gives, uses, acts, given, callers}
 
 -- f holds of each number below n
 abbrev pub below : ℕ → (ℕ → Bool) → Bool
@@ -28,30 +25,30 @@ owned? l (gives v x ∷ r) = has x l && owned? l r
 owned? l (uses w x ∷ r) = owned? (x ∷ l) r
 
 module _ (t : State) where
-  abbrev pub all-sealed? : Bool
-  all-sealed? = below (t .graph .blocks) (t .graph .sealed)
+  abbrev pub all_sealed? : Bool
+  all_sealed? = below t.graph.blocks t.graph.sealed
 
-  abbrev pub none-enters-0? : Bool
-  none-enters-0? = below (t .graph .blocks) (λ p. not (has 0 (t .graph .dests p)))
+  abbrev pub none_enters_0? : Bool
+  none_enters_0? = below t.graph.blocks (λ p. not (has 0 (t.graph.dests p)))
 
-  abbrev pub all-declared? : Bool
-  all-declared? = below (t .graph .blocks) (λ p. every (λ b. has p (t .graph .preds b)) (t .graph .dests p))
+  abbrev pub all_declared? : Bool
+  all_declared? = below t.graph.blocks (λ p. every (λ b. has p (t.graph.preds b)) (t.graph.dests p))
 
-  abbrev pub own-values? : Bool
-  own-values? = below (t .graph .blocks) (λ b. owned? (callers (t .form) b) (acts b (t .done)))
+  abbrev pub own_values? : Bool
+  own_values? = below t.graph.blocks (λ b. owned? (callers t.form b) (acts b t.done))
 
   -- of each destination at a place
-  abbrev pub own-counts? : Bool
-  own-counts? = below (t .graph .blocks) (λ p. below (length (t .graph .dests p))
-      (λ i. length (given p i (t .done)) =? t .form .owns (getD (t .graph .dests p) i 0)))
+  abbrev pub own_counts? : Bool
+  own_counts? = below t.graph.blocks (λ p. below (length (t.graph.dests p))
+      (λ i. length (given p i t.done) =? t.form.owns (get_or (t.graph.dests p) i 0)))
 
-  abbrev pub own-sources? : Bool
-  own-sources? = below (t .graph .blocks) (λ p. below (length (t .graph .dests p))
-      (λ i. every (λ x. has x (values (acts p (t .done))) || has x (callers (t .form) p)) (given p i (t .done))))
+  abbrev pub own_sources? : Bool
+  own_sources? = below t.graph.blocks (λ p. below (length (t.graph.dests p))
+      (λ i. every (λ x. has x (values (acts p t.done)) || has x (callers t.form p)) (given p i t.done)))
 
-  abbrev pub own-args? : Bool
-  own-args? = own-counts? && own-sources?
+  abbrev pub own_args? : Bool
+  own_args? = own_counts? && own_sources?
 
 -- all five
 abbrev pub supposed? : State → Bool
-supposed? t = all-sealed? t && none-enters-0? t && all-declared? t && own-values? t && own-args? t
+supposed? t = all_sealed? t && none_enters_0? t && all_declared? t && own_values? t && own_args? t

@@ -1,10 +1,9 @@
 // A text with numbers put in.
-use crate::out::byte;
-use crate::out::hex;
-use crate::out::number;
+use crate::out::{byte, hex, number};
 use entity::Type;
 
 // What a text tells. Where it tells a type, c is its number; where it tells bits, c has the low 64 and d the high 64.
+#[derive(Clone, Copy)]
 pub struct Numbers {
     pub a: usize,
     pub b: usize,
@@ -63,23 +62,23 @@ fn letter(lane: Type) -> u8 {
 }
 
 // A lane's name: what it is, and how many bits it has.
-fn lane_name(out: &mut [u8], n: usize, lane: Type) -> usize {
-    let m = byte(out, n, letter(lane));
-    number(out, m, lane.width() as usize * 8)
+fn lane_name<R: Print + Eprint>(rt: &R, out: &mut [u8], n: usize, lane: Type) -> usize {
+    let m = byte(rt, out, n, letter(lane));
+    number(rt, out, m, lane.width() as usize * 8)
 }
 
 // A type's name, from what there is to know of it: the lane's, and for a vector how many lanes.
-fn type_name(out: &mut [u8], n: usize, x: usize) -> usize {
+fn type_name<R: Print + Eprint>(rt: &R, out: &mut [u8], n: usize, x: usize) -> usize {
     if Type::COUNT as usize <= x {
-        return number(out, n, x);
+        return number(rt, out, n, x);
     }
     let t = Type(x as u32);
-    let m = lane_name(out, n, t.lane());
+    let m = lane_name(rt, out, n, t.lane());
     if t.lanes() < 2 {
         return m;
     }
-    let k = byte(out, m, b'X');
-    number(out, k, t.lanes() as usize)
+    let k = byte(rt, out, m, b'X');
+    number(rt, out, k, t.lanes() as usize)
 }
 
 // The number that a digit stands for.
@@ -93,25 +92,32 @@ fn of_digit(b: u8, x: Numbers) -> usize {
     }
 }
 
-fn piece(out: &mut [u8], n: usize, b: u8, x: Numbers) -> usize {
+fn piece<R: Print + Eprint>(rt: &R, out: &mut [u8], n: usize, b: u8, x: Numbers) -> usize {
     match b {
-        b'0'..=b'4' => return number(out, n, of_digit(b, x)),
-        b'T' => return type_name(out, n, x.c),
-        b'X' => return hex(out, n, x.c, x.d),
-        b';' => return byte(out, n, b'\n'),
-        _ => return byte(out, n, b),
+        b'0'..=b'4' => return number(rt, out, n, of_digit(b, x)),
+        b'T' => return type_name(rt, out, n, x.c),
+        b'X' => return hex(rt, out, n, x.c, x.d),
+        b';' => return byte(rt, out, n, b'\n'),
+        _ => return byte(rt, out, n, b),
     }
 }
 
 // Line k of the table s, with the numbers of x put in.
-pub fn phrase(out: &mut [u8], n: usize, s: &[u8], k: usize, x: Numbers) -> usize {
+pub fn phrase<R: Print + Eprint>(
+    rt: &R,
+    out: &mut [u8],
+    n: usize,
+    s: &[u8],
+    k: usize,
+    x: Numbers,
+) -> usize {
     let mut m = n;
     let mut i = start_of(s, k);
     while i < s.len() {
         if s[i] == b'\n' {
             return m;
         }
-        m = piece(out, m, s[i], x);
+        m = piece(rt, out, m, s[i], x);
         i += 1;
     }
     m

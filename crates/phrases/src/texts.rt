@@ -1,7 +1,6 @@
 // The texts, in letters and in words. A line of a table below is one text: digits stand for numbers, `T` for a type's name, `X` for bits in
 // hexadecimal, `;` for a line's end.
-use crate::say::Numbers;
-use crate::say::phrase;
+use crate::say::{Numbers, phrase};
 
 // Which text, in both tables.
 pub const RUN: usize = 0;
@@ -58,8 +57,9 @@ pub const RECORD: usize = 23;
 
 pub const STOP: usize = 24;
 
-fn letters(out: &mut [u8], n: usize, which: usize, x: Numbers) -> usize {
+fn letters<R: Print + Eprint>(rt: &R, out: &mut [u8], n: usize, which: usize, x: Numbers) -> usize {
     phrase(
+        rt,
         out,
         n,
         b"S 0;
@@ -93,8 +93,15 @@ W
     )
 }
 
-pub fn words(out: &mut [u8], n: usize, which: usize, x: Numbers) -> usize {
+pub fn words<R: Print + Eprint>(
+    rt: &R,
+    out: &mut [u8],
+    n: usize,
+    which: usize,
+    x: Numbers,
+) -> usize {
     phrase(
+        rt,
         out,
         n,
         b"run, calls: 1;
@@ -128,11 +135,18 @@ v0 is recorded for stack maps;
     )
 }
 
-pub fn line(out: &mut [u8], n: usize, in_words: bool, which: usize, x: Numbers) -> usize {
+pub fn line<R: Print + Eprint>(
+    rt: &R,
+    out: &mut [u8],
+    n: usize,
+    in_words: bool,
+    which: usize,
+    x: Numbers,
+) -> usize {
     if in_words {
-        return words(out, n, which, x);
+        return words(rt, out, n, which, x);
     }
-    letters(out, n, which, x)
+    letters(rt, out, n, which, x)
 }
 
 // k, if a table has so many lines, else 0.
@@ -141,8 +155,15 @@ fn known(k: usize, lines: usize) -> usize {
 }
 
 // What a call asks, by its kind: 0 is its kind, 1 its x, 2 its y, 3 its z.
-pub fn asked(out: &mut [u8], n: usize, kind: usize, x: Numbers) -> usize {
+pub fn asked<R: Print + Eprint>(
+    rt: &R,
+    out: &mut [u8],
+    n: usize,
+    kind: usize,
+    x: Numbers,
+) -> usize {
     phrase(
+        rt,
         out,
         n,
         b" kind 0 with 1, 2, 3
@@ -170,8 +191,15 @@ pub fn asked(out: &mut [u8], n: usize, kind: usize, x: Numbers) -> usize {
 }
 
 // What it is answered, 4; kinds 1, 2, 4, 7 and 17 answer what they were given.
-pub fn answered(out: &mut [u8], n: usize, kind: usize, x: Numbers) -> usize {
+pub fn answered<R: Print + Eprint>(
+    rt: &R,
+    out: &mut [u8],
+    n: usize,
+    kind: usize,
+    x: Numbers,
+) -> usize {
     phrase(
+        rt,
         out,
         n,
         b"
@@ -198,8 +226,15 @@ pub fn answered(out: &mut [u8], n: usize, kind: usize, x: Numbers) -> usize {
 }
 
 // Why it is refused, by the code, which is 0.
-pub fn reason(out: &mut [u8], n: usize, code: usize, x: Numbers) -> usize {
+pub fn reason<R: Print + Eprint>(
+    rt: &R,
+    out: &mut [u8],
+    n: usize,
+    code: usize,
+    x: Numbers,
+) -> usize {
     phrase(
+        rt,
         out,
         n,
         b": refused (0)
@@ -230,8 +265,9 @@ pub fn reason(out: &mut [u8], n: usize, code: usize, x: Numbers) -> usize {
 }
 
 // What value 0 is, by its sort: T its type, 3 its block.
-pub fn sort(out: &mut [u8], n: usize, sort: usize, x: Numbers) -> usize {
+pub fn sort<R: Print + Eprint>(rt: &R, out: &mut [u8], n: usize, sort: usize, x: Numbers) -> usize {
     phrase(
+        rt,
         out,
         n,
         b"v0: T made in block 3

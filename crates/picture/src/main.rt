@@ -1,6 +1,9 @@
 // The second program: runs lists of calls and prints a picture of what each session leaves.
-fn main() {
+#![tactic(auto)]
+
+fn main(rt: HostRuntime) {
     program::start(
+        rt,
         b"picture",
         b"picture [FILE..]
 

@@ -1,13 +1,17 @@
 // What the programs share: the lists of calls in the named files, or those on standard input, are run in turn, and what each session leaves is shown.
-ghost use mathlib.Core.Path.{_≡_};
-ghost use Prim.Native.Nat.{_*_};
-ghost use lib.ListN.{length};
-ghost use Rattle·entity.specs.Limits.{limits};
-use input::list;
+#![tactic(auto)]
+
+ghost use Rattle.std.specs.Prelude.{◌≡◌, ◌*◌, length};
+ghost use Rattle.entity.specs.Limits.{limits};
+
 use input::list::Reading;
-use input::tell;
-use libc::STDIN_FILENO;
+use input::{list, tell};
+use options::ROOM;
 use phrases::out::LOST;
+use std::env::Env;
+use std::fs::File;
+use std::io;
+use std::io::{Error, Read};
 
 mod options;
 mod run;
@@ -19,7 +23,14 @@ pub const WORDS: u32 = 1;
 
 pub const PICTURE: u32 = 2;
 
+// How many bytes of output wait before they are written.
+const OUTPUT: usize = 65536;
+
+// The system's number for a name that is not of the characters that it takes.
+const NO_TEXT: i32 = 84;
+
 // How far an input is read, and how many bytes of output wait.
+#[derive(Clone, Copy)]
 struct State {
     reading: Reading,
     waiting: usize,
@@ -29,31 +40,48 @@ struct State {
 
 // Its ensures gives the length that lending it as a slice needs.
 fn call_cells() -> [u32; entity::CALLS as usize * 4]
-    ensures { λ r. ⌜ limits .calls * 4 ≡ length r ⌝ }
+    ensures { limits.calls * 4 ≡ length result }
 {
     [0u32; entity::CALLS as usize * 4]
 }
 
 // The reading has gone on, to r. If that ends a list, shows what the list leaves; calls above the limit were not kept.
-fn turned(who: &[u8], name: &[u8], out: &mut [u8], calls: &[u32], s: State, r: Reading) -> State {
+fn turned(
+    rt: HostRuntime,
+    who: &[u8],
+    name: &[u8],
+    out: &mut [u8],
+    calls: &[u32],
+    s: State,
+    r: Reading,
+) -> State {
     let mut t = s;
     t.reading = r;
     t.stopped = r.trouble != list::NONE;
     if !r.whole {
         return t;
     }
-    let n = run::answer(who, name, out, s.waiting, s.shown, calls, r);
+    let n = run::answer(rt, who, name, out, s.waiting, s.shown, calls, r);
     t.waiting = n;
     t.stopped = n == LOST;
     t
 }
 
-fn step(who: &[u8], name: &[u8], out: &mut [u8], calls: &mut [u32], s: State, byte: u8) -> State {
+fn step(
+    rt: HostRuntime,
+    who: &[u8],
+    name: &[u8],
+    out: &mut [u8],
+    calls: &mut [u32],
+    s: State,
+    byte: u8,
+) -> State {
     let r = list::with(calls, s.reading, byte);
-    turned(who, name, out, calls, s, r)
+    turned(rt, who, name, out, calls, s, r)
 }
 
 fn steps(
+    rt: HostRuntime,
     who: &[u8],
     name: &[u8],
     out: &mut [u8],
@@ -67,52 +95,57 @@ fn steps(
         if t.stopped {
             return t;
         }
-        t = step(who, name, out, calls, t, bytes[i]);
+        t = step(rt, who, name, out, calls, t, bytes[i]);
         i += 1;
     }
     t
 }
 
 // The input is at its end, or can't be read further.
-fn ended(who: &[u8], name: &[u8], out: &mut [u8], calls: &mut [u32], s: State) -> State {
+fn ended(
+    rt: HostRuntime,
+    who: &[u8],
+    name: &[u8],
+    out: &mut [u8],
+    calls: &mut [u32],
+    s: State,
+) -> State {
     let r = list::end(calls, s.reading);
-    let mut t = turned(who, name, out, calls, s, r);
+    let mut t = turned(rt, who, name, out, calls, s, r);
     t.stopped = true;
     t
 }
 
-fn unread(who: &[u8], name: &[u8], s: State) -> State {
-    options::failed(who, name);
+fn unread(rt: HostRuntime, who: &[u8], name: &[u8], s: State, e: Error) -> State {
+    options::failed(rt, who, name, e);
     let mut t = s;
     t.stopped = true;
     t
 }
 
 // Reads once and takes what came.
-fn read_some(
+fn read_some<I: Read>(
+    rt: HostRuntime,
     who: &[u8],
-    fd: i32,
+    input: &mut I,
     name: &[u8],
     out: &mut [u8],
     calls: &mut [u32],
     s: State,
 ) -> State {
-    let mut space = io::buffer();
-    let got = libc::read(fd, &mut space);
-    let n = io::count(got, &space);
-    if 0 < n {
-        return steps(who, name, out, calls, s, &space[..n]);
+    let mut space = [0u8; ROOM];
+    match input.read(&mut space) {
+        Ok(0) => ended(rt, who, name, out, calls, s),
+        Ok(n) => steps(rt, who, name, out, calls, s, &space[..n]),
+        Err(e) => unread(rt, who, name, s, e),
     }
-    if got < 0 {
-        return unread(who, name, s);
-    }
-    ended(who, name, out, calls, s)
 }
 
 // A proved loop has to end, and nothing says that the input does. So the reads are counted down, from a number that no run uses up.
-fn read_all(
+fn read_all<I: Read>(
+    rt: HostRuntime,
     who: &[u8],
-    fd: i32,
+    input: &mut I,
     name: &[u8],
     out: &mut [u8],
     calls: &mut [u32],
@@ -124,16 +157,17 @@ fn read_all(
         if t.stopped {
             return t;
         }
-        t = read_some(who, fd, name, out, calls, t);
+        t = read_some(rt, who, input, name, out, calls, t);
         turns -= 1;
     }
     t
 }
 
 // Runs the lists of one input, and tells what can't be read of it.
-fn lists(
+fn lists<I: Read>(
+    rt: HostRuntime,
     who: &[u8],
-    fd: i32,
+    input: &mut I,
     name: &[u8],
     out: &mut [u8],
     calls: &mut [u32],
@@ -146,34 +180,53 @@ fn lists(
         shown: shown,
         stopped: false,
     };
-    let t = read_all(who, fd, name, out, calls, s);
-    tell::tell(who, name, t.reading);
+    let t = read_all(rt, who, input, name, out, calls, s);
+    tell::tell(&rt.stderr(), who, name, t.reading);
     t.waiting
 }
 
 // In words the name of a file stands above its lists.
-fn titled(name: &[u8], out: &mut [u8], n: usize, shown: u32) -> usize {
+fn titled(rt: HostRuntime, name: &[u8], out: &mut [u8], n: usize, shown: u32) -> usize {
     if shown != WORDS {
         return n;
     }
-    let m = phrases::out::text(out, n, name);
-    phrases::out::text(out, m, b"\n")
+    let m = phrases::out::text(&rt, out, n, name);
+    phrases::out::text(&rt, out, m, b"\n")
 }
 
-fn file(who: &[u8], name: &[u8], out: &mut [u8], calls: &mut [u32], n: usize, shown: u32) -> usize {
-    let fd = os::open_read(name);
-    if fd < 0 {
-        options::failed(who, name);
-        return n;
+// The named file. A name that is no text names none.
+fn opened(rt: HostRuntime, name: &[u8]) -> io::Result<File> {
+    match str::from_utf8(name) {
+        Ok(path) => File::open(&rt, path),
+        Err(_) => Err(Error::from_raw_os_error(NO_TEXT)),
     }
-    let m = titled(name, out, n, shown);
-    let k = lists(who, fd, name, out, calls, m, shown);
-    libc::close(fd);
-    k
+}
+
+fn file(
+    rt: HostRuntime,
+    who: &[u8],
+    name: &[u8],
+    out: &mut [u8],
+    calls: &mut [u32],
+    n: usize,
+    shown: u32,
+) -> usize {
+    match opened(rt, name) {
+        Ok(f) => {
+            let mut input = f;
+            let m = titled(rt, name, out, n, shown);
+            lists(rt, who, &mut input, name, out, calls, m, shown)
+        }
+        Err(e) => {
+            options::failed(rt, who, name, e);
+            n
+        }
+    }
 }
 
 // Argument i, if it names a file.
 fn argument(
+    rt: HostRuntime,
     who: &[u8],
     i: usize,
     out: &mut [u8],
@@ -181,43 +234,66 @@ fn argument(
     n: usize,
     shown: u32,
 ) -> usize {
-    let mut space = io::buffer();
-    let k = os::arg(i, &mut space);
+    let mut space = [0u8; ROOM];
+    let k = rt.arg(i, &mut space).unwrap_or(0);
     if options::is_option(&space[..k]) {
         return n;
     }
-    file(who, &space[..k], out, calls, n, shown)
+    file(rt, who, &space[..k], out, calls, n, shown)
 }
 
-fn files(who: &[u8], out: &mut [u8], calls: &mut [u32], shown: u32) -> usize {
-    let k = os::arg_count();
+fn files(rt: HostRuntime, who: &[u8], out: &mut [u8], calls: &mut [u32], shown: u32) -> usize {
+    let k = options::count(rt);
     let mut n: usize = 0;
     let mut i: usize = 1;
     while i < k {
-        n = argument(who, i, out, calls, n, shown);
+        n = argument(rt, who, i, out, calls, n, shown);
         i += 1;
     }
     n
 }
 
 // Does what the options ask, and answers how many bytes of output wait.
-fn done(who: &[u8], help: &[u8], out: &mut [u8], calls: &mut [u32], o: options::Options) -> usize {
+fn done(
+    rt: HostRuntime,
+    who: &[u8],
+    help: &[u8],
+    out: &mut [u8],
+    calls: &mut [u32],
+    o: options::Options,
+) -> usize {
     if o.wrong {
         return 0;
     }
     if o.help {
-        return phrases::out::text(out, 0, help);
+        return phrases::out::text(&rt, out, 0, help);
     }
     if o.files == 0 {
-        return lists(who, STDIN_FILENO, b"standard input", out, calls, 0, o.shown);
+        return lists(
+            rt,
+            who,
+            &mut rt.stdin(),
+            b"standard input",
+            out,
+            calls,
+            0,
+            o.shown,
+        );
     }
-    files(who, out, calls, o.shown)
+    files(rt, who, out, calls, o.shown)
 }
 
 // The whole of a program: its name for messages, what --help prints, and how it shows a session.
-pub fn start(who: &[u8], help: &[u8], shown: u32) {
-    let mut out = io::large_buffer();
+pub fn start(rt: HostRuntime, who: &[u8], help: &[u8], shown: u32) {
+    let mut out = [0u8; OUTPUT];
     let mut calls = call_cells();
-    let n = done(who, help, &mut out, &mut calls, options::read(who, shown));
-    phrases::out::flush(&out, n);
+    let n = done(
+        rt,
+        who,
+        help,
+        &mut out,
+        &mut calls,
+        options::read(rt, who, shown),
+    );
+    phrases::out::flush(&rt, &out, n);
 }

@@ -1,8 +1,17 @@
 // What a program is asked by its arguments.
-use crate::PICTURE;
-use crate::WORDS;
+use crate::{PICTURE, WORDS};
 use input::tell;
+use phrases::reason::Words;
+use std::env::{Env, FillError};
+use std::io::Error;
 
+// The longest argument that is read. It holds any path.
+pub const ROOM: usize = 4096;
+
+// The system's number for a name that is too long.
+const TOO_LONG: i32 = 36;
+
+#[derive(Clone, Copy)]
 pub struct Options {
     pub help: bool,
     pub shown: u32,
@@ -21,27 +30,29 @@ pub fn is_option(s: &[u8]) -> bool {
 }
 
 // Tells, by the system's words, that what is named can't be had.
-pub fn failed(who: &[u8], name: &[u8]) {
-    tell::say(who);
-    tell::say(b": ");
-    os::fail(name);
+pub fn failed(rt: HostRuntime, who: &[u8], name: &[u8], e: Error) {
+    tell::begin(&rt.stderr(), who, name);
+    let _ = eprintln!(rt; ": {}", Words(&e));
 }
 
-fn unknown(who: &[u8], s: &[u8]) {
-    tell::begin(who, s);
-    tell::say(b": there is no such option; --help tells which there are\n");
+fn unknown(rt: HostRuntime, who: &[u8], s: &[u8]) {
+    tell::begin(&rt.stderr(), who, s);
+    tell::say(
+        &rt.stderr(),
+        b": there is no such option; --help tells which there are\n",
+    );
 }
 
 fn asks_words(s: &[u8]) -> bool {
-    check::same(s, b"--words")
+    s == b"--words".as_slice()
 }
 
 fn asks_help(s: &[u8]) -> bool {
-    check::same(s, b"--help")
+    s == b"--help".as_slice()
 }
 
 // A picture has no words.
-fn with(who: &[u8], o: Options, s: &[u8]) -> Options {
+fn with(rt: HostRuntime, who: &[u8], o: Options, s: &[u8]) -> Options {
     let mut p = o;
     if !is_option(s) {
         p.files = more(o.files);
@@ -55,7 +66,7 @@ fn with(who: &[u8], o: Options, s: &[u8]) -> Options {
         p.help = true;
         return p;
     }
-    unknown(who, s);
+    unknown(rt, who, s);
     p.wrong = true;
     p
 }
@@ -65,20 +76,32 @@ fn more(n: usize) -> usize {
 }
 
 // The options with argument i.
-fn with_argument(who: &[u8], o: Options, i: usize) -> Options {
-    let mut space = io::buffer();
-    let n = os::arg(i, &mut space);
-    if os::errno() != 0 {
-        failed(who, b"an argument");
-        let mut p = o;
-        p.wrong = true;
-        return p;
+fn with_argument(rt: HostRuntime, who: &[u8], o: Options, i: usize) -> Options {
+    let mut space = [0u8; ROOM];
+    match rt.arg(i, &mut space) {
+        Ok(n) => with(rt, who, o, &space[..n]),
+        Err(_) => {
+            failed(rt, who, b"an argument", Error::from_raw_os_error(TOO_LONG));
+            let mut p = o;
+            p.wrong = true;
+            p
+        }
     }
-    with(who, o, &space[..n])
 }
 
-pub fn read(who: &[u8], shown: u32) -> Options {
-    let k = os::arg_count();
+// How many arguments the program was started with, its own name among them.
+pub fn count(rt: HostRuntime) -> usize {
+    let mut space = [0u8; ROOM];
+    for i in 0..usize::MAX {
+        if let Err(FillError::NotPresent) = rt.arg(i, &mut space) {
+            return i;
+        }
+    }
+    usize::MAX
+}
+
+pub fn read(rt: HostRuntime, who: &[u8], shown: u32) -> Options {
+    let k = count(rt);
     let mut o = Options {
         help: false,
         shown: shown,
@@ -87,7 +110,7 @@ pub fn read(who: &[u8], shown: u32) -> Options {
     };
     let mut i: usize = 1;
     while i < k {
-        o = with_argument(who, o, i);
+        o = with_argument(rt, who, o, i);
         i += 1;
     }
     o

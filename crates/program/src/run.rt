@@ -1,10 +1,8 @@
 // Runs a list over tables of its own, and shows what the session leaves.
-ghost use mathlib.Core.Path.{_≡_};
-ghost use Prim.Native.Nat.{suc, _*_, _<_, _≤_};
-ghost use lib.ListN.{length};
-ghost use Rattle·entity.specs.Limits.{limits, param-room, graph-need, form-need, work-need};
-use crate::PICTURE;
-use crate::WORDS;
+ghost use Rattle.std.specs.Prelude.{◌≡◌, suc, ◌*◌, ◌<◌, ◌≤◌, length};
+ghost use Rattle.entity.specs.Limits.{limits, param_room, graph_need, form_need, work_need};
+
+use crate::{PICTURE, WORDS};
 use input::list::Reading;
 use input::tell;
 
@@ -17,38 +15,38 @@ const PICTURE_BYTES: usize = entity::BLOCKS as usize
 
 // Large arrays are made by a function each, whose ensures gives the length that lending one as a slice needs.
 fn answer_cells() -> [u32; CALLS]
-    ensures { λ r. ⌜ limits .calls ≡ length r ⌝ }
+    ensures { limits.calls ≡ length result }
 {
     [0u32; CALLS]
 }
 
 fn graph_cells() -> [u32; entity::GRAPH_NEED]
-    ensures { λ r. ⌜ graph-need limits ≡ length r ⌝ }
+    ensures { graph_need limits ≡ length result }
 {
     [0u32; entity::GRAPH_NEED]
 }
 
 fn form_cells() -> [u32; entity::FORM_NEED]
-    ensures { λ r. ⌜ form-need limits ≡ length r ⌝ }
+    ensures { form_need limits ≡ length result }
 {
     [0u32; entity::FORM_NEED]
 }
 
 fn work_cells() -> [u32; entity::WORK_NEED]
-    ensures { λ r. ⌜ work-need limits ≡ length r ⌝ }
+    ensures { work_need limits ≡ length result }
 {
     [0u32; entity::WORK_NEED]
 }
 
 fn picture_bytes() -> [u8; PICTURE_BYTES]
-    ensures { λ r. ⌜ limits .blocks * suc (limits .dests) * (8 * param-room limits) ≡ length r ⌝ }
+    ensures { limits.blocks * suc limits.dests * (8 * param_room limits) ≡ length result }
 {
     [0u8; PICTURE_BYTES]
 }
 
 // The first k numbers of a column of calls: of their kinds, their xs, their ys or their zs.
 fn column<'a>(calls: &'a [u32], which: usize, k: usize) -> &'a [u32]
-    requires { ⌜ (which < 4) × (k ≤ limits .calls) × (limits .calls * 4 ≤ length (now calls)) ⌝ }
+    requires { (which < 4) × (k ≤ limits.calls) × (limits.calls * 4 ≤ length calls.now) }
 {
     let start = which * CALLS;
     let end = start + k;
@@ -78,36 +76,49 @@ fn ran(
     session::session(kinds, xs, ys, zs, codes, numbers, graph, form, work) == 0
 }
 
-fn more_than_taken(calls: u32) {
-    tell::count(b" has ", calls as u64);
-    tell::count(b" calls, a session takes ", entity::CALLS as u64);
-    tell::say(b": there is no picture\n");
+fn more_than_taken(err: &impl Print, calls: u32) {
+    tell::count(err, b" has ", calls as u64);
+    tell::count(err, b" calls, a session takes ", entity::CALLS as u64);
+    tell::say(err, b": there is no picture\n");
 }
 
-fn too_long(who: &[u8], name: &[u8], r: Reading) {
+fn too_long(rt: HostRuntime, who: &[u8], name: &[u8], r: Reading) {
     let l = r.line;
-    tell::begin(who, name);
-    tell::count(b": the list that ends before line ", l.place);
-    more_than_taken(r.want);
+    tell::begin(&rt.stderr(), who, name);
+    tell::count(&rt.stderr(), b": the list that ends before line ", l.place);
+    more_than_taken(&rt.stderr(), r.want);
 }
 
 // A list is refused whole: it has more calls than a session takes.
-fn refused(who: &[u8], name: &[u8], out: &mut [u8], n: usize, shown: u32, r: Reading) -> usize {
+fn refused(
+    rt: HostRuntime,
+    who: &[u8],
+    name: &[u8],
+    out: &mut [u8],
+    n: usize,
+    shown: u32,
+    r: Reading,
+) -> usize {
     if shown != PICTURE {
-        return dump::refused(out, n, shown == WORDS);
+        return dump::refused(&rt, out, n, shown == WORDS);
     }
-    too_long(who, name, r);
+    too_long(rt, who, name, r);
     n
 }
 
-fn not_drawn(who: &[u8], name: &[u8], code: u32) {
-    tell::begin(who, name);
-    tell::count(b": a picture is refused with code ", code as u64);
-    tell::say(b"\n");
+fn not_drawn(rt: HostRuntime, who: &[u8], name: &[u8], code: u32) {
+    tell::begin(&rt.stderr(), who, name);
+    tell::count(
+        &rt.stderr(),
+        b": a picture is refused with code ",
+        code as u64,
+    );
+    tell::say(&rt.stderr(), b"\n");
 }
 
 // Tables that a session left can be drawn, and the buffer is long enough; should it not be, that is told.
 fn picture(
+    rt: HostRuntime,
     who: &[u8],
     name: &[u8],
     out: &mut [u8],
@@ -118,15 +129,16 @@ fn picture(
     let mut text = picture_bytes();
     let drawn = draw::draw(graph, form, &mut text);
     if drawn.code != 0 {
-        not_drawn(who, name, drawn.code);
+        not_drawn(rt, who, name, drawn.code);
         return n;
     }
     let k = drawn.length;
-    phrases::out::text(out, n, &text[..k])
+    phrases::out::text(&rt, out, n, &text[..k])
 }
 
 // Shows what a session of k calls left.
 fn show(
+    rt: HostRuntime,
     who: &[u8],
     name: &[u8],
     out: &mut [u8],
@@ -140,9 +152,10 @@ fn show(
     form: &[u32],
 ) -> usize {
     if shown == PICTURE {
-        return picture(who, name, out, n, graph, form);
+        return picture(rt, who, name, out, n, graph, form);
     }
     dump::dump(
+        &rt,
         out,
         n,
         shown == WORDS,
@@ -157,6 +170,7 @@ fn show(
 
 // A list is whole: runs it over cells of its own and shows what the session leaves. A session starts empty whatever they hold.
 pub fn answer(
+    rt: HostRuntime,
     who: &[u8],
     name: &[u8],
     out: &mut [u8],
@@ -181,18 +195,8 @@ pub fn answer(
         &mut work,
     ) {
         return show(
-            who,
-            name,
-            out,
-            n,
-            shown,
-            k,
-            calls,
-            &codes,
-            &numbers,
-            &graph,
-            &form,
+            rt, who, name, out, n, shown, k, calls, &codes, &numbers, &graph, &form,
         );
     }
-    refused(who, name, out, n, shown, r)
+    refused(rt, who, name, out, n, shown, r)
 }

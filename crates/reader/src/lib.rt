@@ -1,16 +1,15 @@
 // Rows of finished tables, read where they lie: a block's parameters, or the arguments of a destination. Nothing is copied, and no such call has a loop.
 // And which values are recorded for stack maps.
-ghost use mathlib.Core.Path.{_≡_};
-ghost use Prim.Native.Nat.{_<_, _^_};
-ghost use lib.ListN.{drop};
-ghost use Rattle·reader·specs.specs.Marks.{Is-recorded, next-of};
-ghost use Rattle·reader·specs.specs.Rows.{Located, Is-row, code-of, named, number, table-of};
-use entity::Block;
-use entity::Branch;
-use entity::Described;
-use entity::Value;
+#![tactic(auto)]
+
+ghost use Rattle.std.specs.Prelude.{◌≡◌, ◌<◌, ◌^◌, drop};
+ghost use Rattle.reader.specs.Marks.{IsRecorded, next_of};
+ghost use Rattle.reader.specs.Rows.{Located, IsRow, code_of, named, number, table_of};
+
+use entity::{Block, Branch, Described, Value};
 
 // What is asked for: the parameters of a block, or the arguments of a branch's destination by its place.
+#[derive(Clone, Copy)]
 pub enum Asked {
     Params(Block),
     Args(Branch, u32),
@@ -18,6 +17,7 @@ pub enum Asked {
 
 // Where the entries of a row lie in its table. With code 6 there is no such row, and no entry. Laid out for C, which gets it as it is.
 #[repr(C)]
+#[derive(Clone, Copy)]
 pub struct Span {
     pub code: u32,
     pub start: usize,
@@ -32,7 +32,7 @@ const NOWHERE: Span = Span {
 
 // Are the numbers below the limits?
 fn named(asked: Asked) -> bool
-    ensures { λ r. ⌜ r ≡ named asked ⌝ }
+    ensures { result ≡ named asked }
 {
     match asked {
         Asked::Params(b) => b.0 < entity::BLOCKS,
@@ -42,7 +42,7 @@ fn named(asked: Asked) -> bool
 
 // Which row of its table it is.
 fn number(asked: Asked) -> usize
-    ensures { λ r. ⌜ (r ≡ number asked) × (r < 2 ^ 36) ⌝ }
+    ensures { (result ≡ number asked) × (result < 2 ^ 36) }
 {
     match asked {
         Asked::Params(b) => b.0 as usize,
@@ -52,7 +52,7 @@ fn number(asked: Asked) -> usize
 
 // Where the row lies in its table, however long that is and whatever it holds.
 pub fn locate(table: &[u32], asked: Asked) -> Span
-    ensures { λ r. ⌜ Located (now (table .entry)) asked (r .code) (r .start) (r .length) ⌝ }
+    ensures { Located table.now asked result.code result.start result.length }
 {
     if !named(asked) {
         return NOWHERE;
@@ -74,7 +74,7 @@ pub fn locate(table: &[u32], asked: Asked) -> Span
 
 // The row as a part of its own table.
 fn part<'a>(table: &'a [u32], asked: Asked) -> &'a [u32]
-    ensures { λ r. ⌜ Is-row (table .entry) asked r ⌝ }
+    ensures { IsRow table.entry asked result }
 {
     let span = locate(table, asked);
     let start = span.start;
@@ -84,7 +84,7 @@ fn part<'a>(table: &'a [u32], asked: Asked) -> &'a [u32]
 
 // The row itself, a part of the table that has it; an empty part if there is no such row.
 pub fn row<'a>(params: &'a [u32], args: &'a [u32], asked: Asked) -> &'a [u32]
-    ensures { λ r. ⌜ Is-row (table-of (params .entry) (args .entry) asked) asked r ⌝ }
+    ensures { IsRow (table_of params.entry args.entry asked) asked result }
 {
     match asked {
         Asked::Params(_) => part(params, asked),
@@ -94,7 +94,7 @@ pub fn row<'a>(params: &'a [u32], args: &'a [u32], asked: Asked) -> &'a [u32]
 
 // 6 if there is no such row, else 0: so a row that is there and empty can be told apart.
 pub fn row_code(params: &[u32], args: &[u32], asked: Asked) -> u32
-    ensures { λ r. ⌜ r ≡ code-of (now (table-of (params .entry) (args .entry) asked)) asked ⌝ }
+    ensures { result ≡ code_of (table_of params.entry args.entry asked).now asked }
 {
     match asked {
         Asked::Params(_) => locate(params, asked).code,
@@ -103,6 +103,7 @@ pub fn row_code(params: &[u32], args: &[u32], asked: Asked) -> u32
 }
 
 // Whether a value is recorded for stack maps, 1 or 0. With code 6 there is no such value.
+#[derive(Clone, Copy)]
 pub struct Mark {
     pub code: u32,
     pub number: u32,
@@ -110,7 +111,7 @@ pub struct Mark {
 
 // By the value's cell in the lent descriptions.
 pub fn recorded(described: &[u32], value: Value) -> Mark
-    ensures { λ r. ⌜ Is-recorded (now (described .entry)) (value .0) (r .code) (r .number) ⌝ }
+    ensures { IsRecorded described.now value.0 result.code result.number }
 {
     let x = value.0 as usize;
     if described.len() <= x {
@@ -124,7 +125,7 @@ pub fn recorded(described: &[u32], value: Value) -> Mark
 
 // The first recorded value from this number on; a number past the lent descriptions if there is none. So they are walked in order.
 pub fn next_recorded(described: &[u32], from: usize) -> usize
-    ensures { λ r. ⌜ r ≡ next-of from (drop from (now (described .entry))) ⌝ }
+    ensures { result ≡ next_of from (drop from described.now) }
 {
     let mut x = from;
     while x < described.len() {

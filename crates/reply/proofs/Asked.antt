@@ -2,18 +2,18 @@
 -- Assumes nothing.
 use Prim.Native.Nat.{ℕ}
 use mathlib.Core.List.{List}
-use Rattle·definition.specs.Session.{State}
-use Rattle·layout.specs.declared.Counts.{Counts}
-use Rattle·graph.specs.Seen.{Graph-with, Seen}
-use Rattle·form.specs.Can.{Cells}
-use Rattle·reply·specs.specs.Replies.{Showing, Some-state}
+use Rattle.definition.specs.Session.{State}
+use Rattle.layout.specs.declared.Counts.{Counts}
+use Rattle.graph.specs.Seen.{GraphWith, Seen}
+use Rattle.form.specs.Can.{Cells}
+use Rattle.reply.specs.Replies.{Showing, SomeState}
 
 module _ {gl fl : List ℕ} {c : Counts} {t : State} (h : Showing gl fl c t) where
-  pub seen : Seen gl (t .graph)
-  seen = record { cells = h .leaves .graph .cells; bounds = h .sure .safe .bounds; sound = h .sure .whole .sound }
+  pub seen : Seen gl t.graph
+  seen = record { cells = h.leaves.graph.cells; bounds = h.sure.safe.bounds; sound = h.sure.whole.sound }
 
-  pub cells : Cells fl (t .form)
-  cells = h .leaves .form .cells
+  pub cells : Cells fl t.form
+  cells = h.leaves.form.cells
 
-pub seen-some : {gl fl : List ℕ} {c : Counts} → Some-state gl fl c → Graph-with (Seen gl)
-seen-some p = (p .0 .graph, seen (p .1))
+pub seen_some : {gl fl : List ℕ} {c : Counts} → SomeState gl fl c → GraphWith (Seen gl)
+seen_some p = (p.0.graph, seen p.1)

@@ -1,58 +1,56 @@
 -- What a call answers and leaves, in the numbers of docs/RULES.md, for each case of the definition's reply; and what every kind of call asks and promises.
 -- Assumes nothing.
-use Prim.Native.Nat.{ℕ}
-use mathlib.Core.Path.{_≡_}
-use mathlib.Core.List.{List}
-use Rattle·definition.specs.Form.{Graph, Form}
-use Rattle·definition.specs.Session.{State, Reply as Defined, no, ok}
-use Rattle·meaning.proofs.Sure.{Sure}
-use Rattle·layout.specs.declared.Counts.{Counts}
-use Rattle·layout.specs.Layout.{Graphs, Shows}
-use Rattle·reply·specs.specs.declared.Reply.{Reply}
+use Rattle.std.specs.Prelude.{ℕ, ◌≡◌, List}
+use Rattle.definition.specs.Form.{Graph, Form}
+use Rattle.definition.specs.Session.{State, Reply as Defined, no, ok}
+use Rattle.meaning.proofs.Sure.{Sure}
+use Rattle.layout.specs.declared.Counts.{Counts}
+use Rattle.layout.specs.Layout.{Graphs, Shows}
+use Rattle.reply.specs.declared.Reply.{Reply}
 
 -- a refused call has its code and the number 0; an accepted one the code 0 and its number
-abbrev pub code-of : Defined → ℕ
-code-of (no k) = k
-code-of (ok n g s) = 0
+abbrev pub code_of : Defined → ℕ
+code_of (no k) = k
+code_of (ok n g s) = 0
 
-abbrev pub number-of : Defined → ℕ
-number-of (no k) = 0
-number-of (ok n g s) = n
+abbrev pub number_of : Defined → ℕ
+number_of (no k) = 0
+number_of (ok n g s) = n
 
 -- a refused call changes nothing
-abbrev pub graph-after : Graph → Defined → Graph
-graph-after g (no k) = g
-graph-after g (ok n g′ s′) = g′
+abbrev pub graph_after : Graph → Defined → Graph
+graph_after g (no k) = g
+graph_after g (ok n g' s') = g'
 
-abbrev pub form-after : Form → Defined → Form
-form-after s (no k) = s
-form-after s (ok n g′ s′) = s′
+abbrev pub form_after : Form → Defined → Form
+form_after s (no k) = s
+form_after s (ok n g' s') = s'
 
 -- The lent cells of the graph and of the form, and the counts, show this graph and this form; both stacks are empty.
 pub record Leaves (gl fl : List ℕ) (c : Counts) (g : Graph) (s : Form) : Type 0 where
   pub graph : Graphs gl c g
   pub form : Shows fl c s
-  pub calls : c .calls ≡ 0
-  pub results : c .results ≡ 0
+  pub calls : c.calls ≡ 0
+  pub results : c.results ≡ 0
 
 -- r answers the definition's reply d to a call on this graph and form, and the cells show what d leaves
 pub record Replies (gl fl : List ℕ) (r : Reply) (g : Graph) (s : Form) (d : Defined) : Type 0 where
-  pub code : r .code ≡ code-of d
-  pub number : r .number ≡ number-of d
-  pub leaves : Leaves gl fl (r .counts) (graph-after g d) (form-after s d)
+  pub code : r.code ≡ code_of d
+  pub number : r.number ≡ number_of d
+  pub leaves : Leaves gl fl r.counts (graph_after g d) (form_after s d)
 
 -- the cells and the counts show a state that has all that holds of every session
 pub record Showing (gl fl : List ℕ) (c : Counts) (t : State) : Type 0 where
-  pub leaves : Leaves gl fl c (t .graph) (t .form)
+  pub leaves : Leaves gl fl c t.graph t.form
   pub sure : Sure t
 
 -- what every kind asks: they show some such state
-abbrev pub Some-state : List ℕ → List ℕ → Counts → Type 0
-Some-state gl fl c = (t : State) × Showing gl fl c t
+abbrev pub SomeState : List ℕ → List ℕ → Counts → Type 0
+SomeState gl fl c = (t : State) × Showing gl fl c t
 
--- what every kind promises: for each state that the cells gl and fl show, r answers the reply f, and gl′ and fl′ show what it leaves
+-- what every kind promises: for each state that the cells gl and fl show, r answers the reply f, and gl' and fl' show what it leaves
 abbrev pub Answers : List ℕ → List ℕ → List ℕ → List ℕ → Counts → Reply → (Graph → Form → Defined) → Type 0
-Answers gl fl gl′ fl′ c r f = (t : State) → Showing gl fl c t → Replies gl′ fl′ r (t .graph) (t .form) (f (t .graph) (t .form))
+Answers gl fl gl' fl' c r f = (t : State) → Showing gl fl c t → Replies gl' fl' r t.graph t.form (f t.graph t.form)
 
 -- what refusing and accepting make of the counts
 abbrev pub refusal : ℕ → Counts → Reply

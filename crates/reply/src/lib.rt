@@ -1,16 +1,18 @@
 // What a call answers: its code, its number and the counts after it; and the checks that calls of several kinds have.
-ghost use mathlib.Core.Path.{_≡_};
-ghost use mathlib.Core.Bool.{false};
-ghost use Prim.Native.Nat.{_<_};
-ghost use Rattle·entity.specs.Limits.{limits};
-ghost use Rattle·definition.specs.Form.{Graph, Form};
-ghost use Rattle·definition.specs.Session.{no-block, no-var, no-branch};
-ghost use Rattle·graph.specs.Seen.{Graph-with, Seen};
-ghost use Rattle·reply·specs.specs.Replies.{refusal, acceptance};
+#![tactic(auto)]
+
+ghost use Rattle.std.specs.Prelude.{◌≡◌, false, ◌<◌};
+ghost use Rattle.entity.specs.Limits.{limits};
+ghost use Rattle.definition.specs.Form.{Graph, Form};
+ghost use Rattle.definition.specs.Session.{no_block, no_var, no_branch};
+ghost use Rattle.graph.specs.Seen.{GraphWith, Seen};
+ghost use Rattle.reply.specs.Replies.{refusal, acceptance};
+
 use entity::Block;
 use layout::Counts;
 
 // The answer's code and number, and the counts after the call.
+#[derive(Clone, Copy)]
 pub struct Reply {
     pub code: u32,
     pub number: u32,
@@ -48,7 +50,7 @@ pub const LATE: u32 = 20;
 
 // A refused call has the number 0 and leaves the counts as they were.
 pub fn refuse(code: u32, c: Counts) -> Reply
-    ensures { λ r. ⌜ r ≡ refusal code c ⌝ }
+    ensures { result ≡ refusal code c }
 {
     Reply {
         code: code,
@@ -59,7 +61,7 @@ pub fn refuse(code: u32, c: Counts) -> Reply
 
 // Code 0 is for a call that was not refused.
 pub fn accept(number: u32, c: Counts) -> Reply
-    ensures { λ r. ⌜ r ≡ acceptance number c ⌝ }
+    ensures { result ≡ acceptance number c }
 {
     Reply {
         code: 0,
@@ -70,27 +72,27 @@ pub fn accept(number: u32, c: Counts) -> Reply
 
 // Blocks are numbered from 0 without a gap, so those that are there are below their count.
 pub fn no_block(graph: &[u32], b: u32) -> bool
-    requires { ⌜ Graph-with (Seen (now graph)) ⌝ }
-    ensures { λ r. ⌜ (r ≡ false → b < limits .blocks) ⌝ }
-    ensures { λ r. ⌜ ((g : Graph) → (s : Form) → Seen (now (graph .entry)) g → r ≡ no-block g s b) ⌝ }
+    requires { GraphWith (Seen graph.now) }
+    ensures b_lt_blocks { result ≡ false → b < limits.blocks }
+    ensures value { (g : Graph) → (s : Form) → Seen graph.now g → result ≡ no_block g s b }
 {
     graph::block_count(graph) <= b
 }
 
 // So are variables.
 pub fn no_var(graph: &[u32], v: u32) -> bool
-    requires { ⌜ Graph-with (Seen (now graph)) ⌝ }
-    ensures { λ r. ⌜ (r ≡ false → v < limits .variables) ⌝ }
-    ensures { λ r. ⌜ ((g : Graph) → (s : Form) → Seen (now (graph .entry)) g → r ≡ no-var g s v) ⌝ }
+    requires { GraphWith (Seen graph.now) }
+    ensures v_lt_variables { result ≡ false → v < limits.variables }
+    ensures value { (g : Graph) → (s : Form) → Seen graph.now g → result ≡ no_var g s v }
 {
     graph::variable_count(graph) <= v
 }
 
 // A branch bears its block's number.
 pub fn no_branch(graph: &[u32], p: u32) -> bool
-    requires { ⌜ Graph-with (Seen (now graph)) ⌝ }
-    ensures { λ r. ⌜ (r ≡ false → p < limits .blocks) ⌝ }
-    ensures { λ r. ⌜ ((g : Graph) → (s : Form) → Seen (now (graph .entry)) g → r ≡ no-branch g s p) ⌝ }
+    requires { GraphWith (Seen graph.now) }
+    ensures p_lt_blocks { result ≡ false → p < limits.blocks }
+    ensures value { (g : Graph) → (s : Form) → Seen graph.now g → result ≡ no_branch g s p }
 {
     if no_block(graph, p) {
         return true;

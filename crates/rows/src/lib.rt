@@ -1,14 +1,13 @@
 // Rows of cells that hold a list: the count, the entries, zeros. `at` is the cell of the count.
-ghost use mathlib.Core.Path.{_≡_};
-ghost use Prim.Native.Nat.{_<_};
-ghost use lib.Dec.{ltb};
-ghost use lib.ListN.{getD};
-ghost use Rattle·layout.specs.Rows.{Readable, Pushable, pushed, swapped, seek, sift, wipe};
+#![tactic(auto)]
+
+ghost use Rattle.std.specs.Prelude.{◌≡◌, ◌<◌, ltb, get_or};
+ghost use Rattle.layout.specs.Rows.{Readable, Pushable, pushed, swapped, seek, sift, wipe};
 
 // One entry more.
 pub fn push(t: &mut [u32], at: usize, x: u32)
-    requires { ⌜ Pushable (now t) at ⌝ }
-    ensures { λ r. ⌜ now (t .exit) ≡ pushed (now (t .entry)) at x ⌝ }
+    requires { Pushable t.old at }
+    ensures { t.new ≡ pushed t.old at x }
 {
     let n = t[at];
     let k = n as usize;
@@ -18,8 +17,8 @@ pub fn push(t: &mut [u32], at: usize, x: u32)
 
 // The place of the first x, the count where there is none.
 pub fn find(t: &[u32], at: usize, x: u32) -> u32
-    requires { ⌜ Readable (now t) at ⌝ }
-    ensures { λ r. ⌜ r ≡ seek (now (t .entry)) at x (getD (now (t .entry)) at 0) 0 ⌝ }
+    requires { Readable t.now at }
+    ensures { result ≡ seek t.now at x (get_or t.now at 0) 0 }
 {
     let n = t[at];
     let mut i: u32 = 0;
@@ -36,8 +35,8 @@ pub fn find(t: &[u32], at: usize, x: u32) -> u32
 
 // Is x in the row?
 pub fn has(t: &[u32], at: usize, x: u32) -> bool
-    requires { ⌜ Readable (now t) at ⌝ }
-    ensures { λ r. ⌜ r ≡ ltb (seek (now (t .entry)) at x (getD (now (t .entry)) at 0) 0) (getD (now (t .entry)) at 0) ⌝ }
+    requires { Readable t.now at }
+    ensures { result ≡ ltb (seek t.now at x (get_or t.now at 0) 0) (get_or t.now at 0) }
 {
     let n = t[at];
     find(t, at, x) < n
@@ -45,8 +44,8 @@ pub fn has(t: &[u32], at: usize, x: u32) -> bool
 
 // Entries equal to x leave the row; the others keep their order.
 pub fn remove(t: &mut [u32], at: usize, x: u32)
-    requires { ⌜ Readable (now t) at ⌝ }
-    ensures { λ r. ⌜ now (t .exit) ≡ sift at x (getD (now (t .entry)) at 0) 0 0 (now (t .entry)) ⌝ }
+    requires { Readable t.old at }
+    ensures { t.new ≡ sift at x (get_or t.old at 0) 0 0 t.old }
 {
     let n = t[at] as usize;
     let mut i: usize = 0;
@@ -68,9 +67,9 @@ pub fn remove(t: &mut [u32], at: usize, x: u32)
 
 // The entry at a place leaves the row, and the last one moves there.
 pub fn swap_remove(t: &mut [u32], at: usize, place: u32)
-    requires { ⌜ Readable (now t) at ⌝ }
-    requires { ⌜ place < getD (now t) at 0 ⌝ }
-    ensures { λ r. ⌜ now (t .exit) ≡ swapped (now (t .entry)) at place ⌝ }
+    requires readable { Readable t.old at }
+    requires place_bound { place < get_or t.old at 0 }
+    ensures { t.new ≡ swapped t.old at place }
 {
     let n = t[at];
     let k = n as usize;
@@ -83,8 +82,8 @@ pub fn swap_remove(t: &mut [u32], at: usize, place: u32)
 
 // The row is emptied.
 pub fn clear(t: &mut [u32], at: usize)
-    requires { ⌜ Readable (now t) at ⌝ }
-    ensures { λ r. ⌜ now (t .exit) ≡ wipe at (getD (now (t .entry)) at 0) 0 (now (t .entry)) ⌝ }
+    requires { Readable t.old at }
+    ensures { t.new ≡ wipe at (get_or t.old at 0) 0 t.old }
 {
     let n = t[at] as usize;
     let mut j: usize = 0;

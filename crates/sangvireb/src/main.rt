@@ -1,6 +1,9 @@
 // The program: runs lists of calls and prints what each session leaves, line by line.
-fn main() {
+#![tactic(auto)]
+
+fn main(rt: HostRuntime) {
     program::start(
+        rt,
         b"sangvireb",
         b"sangvireb [--words] [FILE..]
 

@@ -1,54 +1,55 @@
 -- What the two tests of lengths decide of the whole session: a refusal leaves what was lent, an accepted one puts what the session shows over the first
 -- cells of each list.
 -- Assumes nothing.
-use Prim.Native.Nat.{ℕ, _≤_}
-use mathlib.Core.Path.{_≡_, refl, sym, ap, _∙_, subst}
+use Prim.Native.Nat.{ℕ, ◌≤◌}
+use mathlib.Core.Path.{◌≡◌, refl, sym, ap, ◌∙◌, subst}
 use mathlib.Core.Bool.{Bool, true, false, cond}
-use mathlib.Core.List.{List, _++_}
+use mathlib.Core.List.{List, ◌++◌}
 use native.Mathlib.Omega.{arith}
 use lib.ListN.{length, take, drop, length-append, length-drop}
 use lib.Seq.{length-take-le}
-use Rattle·entity.specs.Limits.{limits, graph-need, form-need, work-need}
-use Rattle·definition.specs.Base.{_=?_}
-use Rattle·definition.specs.Session.{session}
-use Rattle·definition.specs.Whole.{calls, needs, short, unfit, whole-answer}
-use Rattle·layout.specs.Outcome.{Lent, Same-lists, lengths, shown, past, followed-by}
-use Rattle·layout.proofs.Outcome.{Fits, by-tests}
-use Rattle·turns.specs.Turns.{Lined, Exact}
-use Rattle·session·specs.specs.Ends.{Ended}
+use Rattle.entity.specs.Limits.{limits, graph_need, form_need, work_need}
+use Rattle.definition.specs.Base.{◌=?◌}
+use Rattle.definition.specs.Session.{session}
+use Rattle.definition.specs.Whole.{calls, needs, short, unfit, whole_answer}
+use Rattle.layout.specs.Outcome.{Lent, SameLists, lengths, shown, past, followed_by}
+use Rattle.layout.proofs.Outcome.{Fits, fits, by_tests}
+use Rattle.reply.proofs.Answered.{tested}
+use Rattle.turns.specs.Turns.{Lined, Exact}
+use Rattle.session.specs.Ends.{Ended}
 
 module _ (ks xs ys zs : List ℕ) (t : Lent) where
-  abbrev too-short : Bool
-  too-short = short (needs (length ks)) (lengths t)
+  abbrev too_short : Bool
+  too_short = short (needs (length ks)) (lengths t)
 
   -- the answer, by the two tests
-  answered : {u v : Bool} → unfit ks xs ys zs ≡ u → short (needs (length ks)) (lengths t) ≡ v → whole-answer ks xs ys zs (lengths t) ≡ by-tests u v
-  answered {u} p q = ap (λ (z : Bool). by-tests z too-short) p ∙ ap (by-tests u) q
+  answered : {u v : Bool} → unfit ks xs ys zs ≡ u → short (needs (length ks)) (lengths t) ≡ v → whole_answer ks xs ys zs (lengths t) ≡ by_tests u v
+  answered {u} p q = ap (λ (z : Bool). by_tests z too_short) p ∙ ap (by_tests u) q
 
   -- what the lists hold after the answer r
   abbrev left : ℕ → Lent
-  left r = cond (r =? 0) (followed-by (shown (session (calls ks xs ys zs))) (past (needs (length ks)) t)) t
+  left r = cond (r =? 0) (followed_by (shown (session (calls ks xs ys zs))) (past (needs (length ks)) t)) t
 
-  meets : {u : Lent} {r : ℕ} → whole-answer ks xs ys zs (lengths t) ≡ r → Same-lists u (left r) → Ended ks xs ys zs t u r
-  meets {u} e l = record { answer = sym e; leaves = subst (λ (n : ℕ). Same-lists u (left n)) (sym e) l }
+  meets : {u : Lent} {r : ℕ} → whole_answer ks xs ys zs (lengths t) ≡ r → SameLists u (left r) → Ended ks xs ys zs t u r
+  meets {u} e l = record { answer = sym e; leaves = subst (λ (n : ℕ). SameLists u (left n)) (sym e) l }
 
-  untouched : Same-lists t t
+  untouched : SameLists t t
   untouched = record { codes = refl; numbers = refl; graph = refl; form = refl; work = refl }
 
-  pub all-unfit : unfit ks xs ys zs ≡ true → Ended ks xs ys zs t t 2
-  all-unfit p = meets (answered p refl) untouched
+  pub all_unfit : unfit ks xs ys zs ≡ true → Ended ks xs ys zs t t 2
+  all_unfit p = meets (answered p refl) untouched
 
-  pub some-short : unfit ks xs ys zs ≡ false → short (needs (length ks)) (lengths t) ≡ true → Ended ks xs ys zs t t 1
-  some-short p q = meets (answered p q) untouched
+  pub some_short : unfit ks xs ys zs ≡ false → short (needs (length ks)) (lengths t) ≡ true → Ended ks xs ys zs t t 1
+  some_short p q = meets (answered p q) untouched
 
-  pub all-done : {u : Lent} → unfit ks xs ys zs ≡ false → short (needs (length ks)) (lengths t) ≡ false → Same-lists u (shown (session (calls ks xs ys zs)))
-      → Ended ks xs ys zs t (followed-by u (past (needs (length ks)) t)) 0
-  all-done p q l = meets (answered p q) record {
-    codes = ap (λ (r : List ℕ). r ++ drop (length ks) (t .codes)) (l .codes);
-    numbers = ap (λ (r : List ℕ). r ++ drop (length ks) (t .numbers)) (l .numbers);
-    graph = ap (λ (r : List ℕ). r ++ drop (graph-need limits) (t .graph)) (l .graph);
-    form = ap (λ (r : List ℕ). r ++ drop (form-need limits) (t .form)) (l .form);
-    work = ap (λ (r : List ℕ). r ++ drop (work-need limits) (t .work)) (l .work);
+  pub all_done : {u : Lent} → unfit ks xs ys zs ≡ false → short (needs (length ks)) (lengths t) ≡ false → SameLists u (shown (session (calls ks xs ys zs)))
+      → Ended ks xs ys zs t (followed_by u (past (needs (length ks)) t)) 0
+  all_done p q l = meets (answered p q) record {
+    codes = ap (λ (r : List ℕ). r ++ drop (length ks) t.codes) l.codes;
+    numbers = ap (λ (r : List ℕ). r ++ drop (length ks) t.numbers) l.numbers;
+    graph = ap (λ (r : List ℕ). r ++ drop (graph_need limits) t.graph) l.graph;
+    form = ap (λ (r : List ℕ). r ++ drop (form_need limits) t.form) l.form;
+    work = ap (λ (r : List ℕ). r ++ drop (work_need limits) t.work) l.work;
   }
 
 -- the first n cells are lent on, and come back
@@ -56,19 +57,24 @@ pub back : (n : ℕ) (l u : List ℕ) → n ≤ length l → length u ≡ length
 back n l u h e = length-append u (drop n l) ∙ omega (arith, e, length-take-le n l h, length-drop n l)
 
 module _ {ks xs ys zs : List ℕ} {t : Lent} (h : Fits ks xs ys zs t) where
-  pub lined : Lined (length ks) xs ys zs (take (length ks) (t .codes)) (take (length ks) (t .numbers))
+  pub lined : Lined (length ks) xs ys zs (take (length ks) t.codes) (take (length ks) t.numbers)
   lined = record {
-    few = h .few;
-    xs-long = h .xs-fit;
-    ys-long = h .ys-fit;
-    zs-long = h .zs-fit;
-    codes-long = length-take-le (length ks) (t .codes) (h .codes-fit);
-    numbers-long = length-take-le (length ks) (t .numbers) (h .numbers-fit);
+    few = h.few;
+    xs_long = h.xs_fit;
+    ys_long = h.ys_fit;
+    zs_long = h.zs_fit;
+    codes_long = length-take-le (length ks) t.codes h.codes_fit;
+    numbers_long = length-take-le (length ks) t.numbers h.numbers_fit;
   }
 
-  pub exact : Exact (take (graph-need limits) (t .graph)) (take (form-need limits) (t .form)) (take (work-need limits) (t .work))
+  pub exact : Exact (take (graph_need limits) t.graph) (take (form_need limits) t.form) (take (work_need limits) t.work)
   exact = record {
-    graph-exact = length-take-le (graph-need limits) (t .graph) (h .graph-fit);
-    form-exact = length-take-le (form-need limits) (t .form) (h .form-fit);
-    work-exact = length-take-le (work-need limits) (t .work) (h .work-fit);
+    graph_exact = length-take-le (graph_need limits) t.graph h.graph_fit;
+    form_exact = length-take-le (form_need limits) t.form h.form_fit;
+    work_exact = length-take-le (work_need limits) t.work h.work_fit;
   }
+
+-- where both tests of the code say no, the tables that are lent on are just as long as the run asks
+pub run_exact : (ks xs ys zs : List ℕ) (t : Lent) {u v : Bool} → u ≡ unfit ks xs ys zs → u ≡ false → v ≡ short (needs (length ks)) (lengths t) → v ≡ false
+    → Exact (take (graph_need limits) t.graph) (take (form_need limits) t.form) (take (work_need limits) t.work)
+run_exact ks xs ys zs t p p' q q' = exact (fits ks xs ys zs t (tested p p') (tested q q'))

@@ -1,8 +1,10 @@
 // The session: a whole list of calls over lent cells. The lengths decide whether it is run at all; if it is, the calls are run in turn.
-ghost use mathlib.Core.Path.{_≡_};
-ghost use Rattle·definition.specs.Whole.{needs, short, unfit};
-ghost use Rattle·layout.specs.Outcome.{lent};
-ghost use Rattle·session·specs.specs.Ends.{long, Ended};
+#![tactic(auto)]
+
+ghost use Rattle.std.specs.Prelude.{◌≡◌};
+ghost use Rattle.definition.specs.Whole.{needs, short, unfit};
+ghost use Rattle.layout.specs.Outcome.{lent};
+ghost use Rattle.session.specs.Ends.{long, Ended};
 
 // What a session answers where a lent list is shorter than its need, and where the call lists don't fit together.
 const SHORT: u32 = 1;
@@ -11,7 +13,7 @@ const UNFIT: u32 = 2;
 
 // Do the call lists differ in length, or are there more calls than the limit?
 fn unfit(kinds: &[u32], xs: &[u32], ys: &[u32], zs: &[u32]) -> bool
-    ensures { λ r. ⌜ r ≡ unfit (now (kinds .entry)) (now (xs .entry)) (now (ys .entry)) (now (zs .entry)) ⌝ }
+    ensures { result ≡ unfit kinds.now xs.now ys.now zs.now }
 {
     let n = kinds.len();
     if xs.len() != n {
@@ -28,7 +30,7 @@ fn unfit(kinds: &[u32], xs: &[u32], ys: &[u32], zs: &[u32]) -> bool
 
 // Is some list shorter than n calls need?
 fn short(n: usize, codes: usize, numbers: usize, graph: usize, form: usize, work: usize) -> bool
-    ensures { λ r. ⌜ r ≡ short (needs n) (long codes numbers graph form work) ⌝ }
+    ensures { result ≡ short (needs n) (long codes numbers graph form work) }
 {
     if codes < n {
         return true;
@@ -58,9 +60,9 @@ pub fn session(
     form: &mut [u32],
     work: &mut [u32],
 ) -> u32
-    ensures { λ r. ⌜ Ended (now (kinds .entry)) (now (xs .entry)) (now (ys .entry)) (now (zs .entry))
-        (lent (now (codes .entry)) (now (numbers .entry)) (now (graph .entry)) (now (form .entry)) (now (work .entry)))
-        (lent (now (codes .exit)) (now (numbers .exit)) (now (graph .exit)) (now (form .exit)) (now (work .exit))) r ⌝ }
+    ensures { Ended kinds.now xs.now ys.now zs.now
+        (lent codes.old numbers.old graph.old form.old work.old)
+        (lent codes.new numbers.new graph.new form.new work.new) result }
 {
     if unfit(kinds, xs, ys, zs) {
         return UNFIT;

@@ -1,32 +1,29 @@
 // Settling a parameter by the results of its block's predecessors: a zero, another name of the one value that they agree on, or arguments.
-ghost use mathlib.Core.Path.{_≡_};
-ghost use mathlib.Core.List.{List, map};
-ghost use Prim.Native.Nat.{ℕ, _<_};
-ghost use lib.ListN.{length};
-ghost use Rattle·entity.specs.Limits.{limits, value-room};
-ghost use Rattle·entity.specs.Types.{step-of};
-ghost use Rattle·definition.specs.Base.{without};
-ghost use Rattle·definition.specs.Form.{Graph, Form, with-args};
-ghost use Rattle·definition.specs.Read.{resolve, feed, feed-all, emit-step, alias as alias-of};
-ghost use Rattle·meaning.specs.Machine.{Task};
-ghost use Rattle·layout.specs.Counts.{with-values};
-ghost use Rattle·layout.specs.Layout.{Shows};
-ghost use Rattle·form.specs.Can.{Cells, Ex};
-ghost use Rattle·work.specs.Work.{lasts};
-ghost use Rattle·settle·specs.specs.Settle.{Some-with, Both-with, All-with, Can-resolve, Can-agree, judge, Can-feed-branch, Can-feed-all};
-ghost use Rattle·settle·specs.specs.Settle.{Can-emit, Can-zero, Zeroed, Can-alias, Can-settle, Settled};
-use entity::Block;
-use entity::Branch;
-use entity::Found;
-use entity::Type;
-use entity::Value;
-use layout::Counts;
-use layout::TARGET;
+#![tactic(auto)]
+
+ghost use Rattle.std.specs.Prelude.{◌≡◌, List, map, ℕ, ◌<◌, length};
+ghost use Rattle.entity.specs.Limits.{limits, value_room};
+ghost use Rattle.entity.specs.Types.{step_of};
+ghost use Rattle.definition.specs.Base.{without};
+ghost use Rattle.definition.specs.Form.{Graph, Form, with_args};
+ghost use Rattle.definition.specs.Read.{resolve, feed, feed_all, emit_step, alias as alias_of};
+ghost use Rattle.meaning.specs.Machine.{Task};
+ghost use Rattle.layout.specs.Counts.{with_values};
+ghost use Rattle.layout.specs.Layout.{Shows};
+ghost use Rattle.form.specs.Can.{Cells, Ex};
+ghost use Rattle.work.specs.Work.{lasts};
+ghost use Rattle.settle.specs.Settle.{SomeWith, BothWith, AllWith, CanResolve, CanAgree, judge, CanFeedBranch, CanFeedAll};
+ghost use Rattle.settle.specs.Settle.{CanEmit, CanZero, Zeroed, CanAlias, CanSettle, Settled};
+
+use entity::{Block, Branch, Found, Type, Value};
+use layout::{Counts, TARGET};
 
 // The value that a lookup ends in, with the counts after it.
+#[derive(Clone, Copy)]
 pub struct Finished(pub Value, pub Counts);
 
 // What the predecessors' results say: nothing but the sentinel, one value, or more.
+#[derive(Clone, Copy)]
 pub enum Agreement {
     Nothing,
     One(Value),
@@ -35,9 +32,9 @@ pub enum Agreement {
 
 // The value that this one is a name of, itself for none. Every chain of names ends, so there is nothing to test but that.
 fn resolve_aliases(form: &[u32], c: Counts, val: Value) -> Value
-    requires { ⌜ Ex (Can-resolve (now form) c (val .0)) ⌝ }
-    ensures { λ r. ⌜ r .0 < value-room limits ⌝ }
-    ensures { λ r. ⌜ ((s : Form) → Can-resolve (now (form .entry)) c (val .0) s → r .0 ≡ resolve s (val .0)) ⌝ }
+    requires { Ex (CanResolve form.now c val.0) }
+    ensures result_bound { result.0 < value_room limits }
+    ensures result_value { (s : Form) → CanResolve form.now c val.0 s → result.0 ≡ resolve s val.0 }
 {
     let end = TARGET + c.values as usize;
     alias::follow(&form[TARGET..end], val)
@@ -45,9 +42,9 @@ fn resolve_aliases(form: &[u32], c: Counts, val: Value) -> Value
 
 // What the last n results say, resolved. The sentinel says nothing; the second value that differs decides.
 fn agree(form: &[u32], work: &[u32], c: Counts, n: u32, sentinel: Value) -> Agreement
-    requires { ⌜ Some-with (Can-agree (now form) (now work) c n) ⌝ }
-    ensures { λ r. ⌜ ((s : Form) → (ts : List Task) → (rs : List ℕ) → Can-agree (now (form .entry)) (now (work .entry)) c n s ts rs
-        → r ≡ judge (without (sentinel .0) (map (resolve s) (lasts n rs)))) ⌝ }
+    requires { SomeWith (CanAgree form.now work.now c n) }
+    ensures { (s : Form) → (ts : List Task) → (rs : List ℕ) → CanAgree form.now work.now c n s ts rs
+        → result ≡ judge (without sentinel.0 (map (resolve s) (lasts n rs))) }
 {
     let mut verdict = Agreement::Nothing;
     let mut i: u32 = 0;
@@ -77,9 +74,9 @@ fn agree(form: &[u32], work: &[u32], c: Counts, n: u32, sentinel: Value) -> Agre
 
 // The value becomes the next argument at each destination of the branch that is the block.
 fn append_argument(graph: &[u32], form: &mut [u32], branch: Branch, dest: Block, val: Value)
-    requires { ⌜ Both-with (Can-feed-branch (now graph) (now form) (branch .0) (dest .0)) ⌝ }
-    ensures { λ r. ⌜ ((g : Graph) → (s : Form) → Can-feed-branch (now (graph .entry)) (now (form .entry)) (branch .0) (dest .0) g s
-        → Cells (now (form .exit)) (with-args s (feed (branch .0) (dest .0) (val .0) (g .dests (branch .0)) (s .args)))) ⌝ }
+    requires { BothWith (CanFeedBranch graph.now form.old branch.0 dest.0) }
+    ensures { (g : Graph) → (s : Form) → CanFeedBranch graph.now form.old branch.0 dest.0 g s
+        → Cells form.new (with_args s (feed branch.0 dest.0 val.0 (g.dests branch.0) s.args)) }
 {
     let n = graph::dest_count(graph, branch);
     let mut i: u32 = 0;
@@ -96,10 +93,10 @@ fn append_argument(graph: &[u32], form: &mut [u32], branch: Branch, dest: Block,
 
 // Each predecessor's result, unresolved, becomes an argument of its branch.
 fn append_arguments(graph: &[u32], form: &mut [u32], work: &[u32], c: Counts, dest: Block)
-    requires { ⌜ All-with (Can-feed-all (now graph) (now form) (now work) c (dest .0)) ⌝ }
-    ensures { λ r. ⌜ ((g : Graph) → (s : Form) → (ts : List Task) → (rs : List ℕ)
-        → Can-feed-all (now (graph .entry)) (now (form .entry)) (now (work .entry)) c (dest .0) g s ts rs
-        → Cells (now (form .exit)) (with-args s (feed-all g (dest .0) (g .preds (dest .0)) (lasts (length (g .preds (dest .0))) rs) (s .args)))) ⌝ }
+    requires { AllWith (CanFeedAll graph.now form.old work.now c dest.0) }
+    ensures { (g : Graph) → (s : Form) → (ts : List Task) → (rs : List ℕ)
+        → CanFeedAll graph.now form.old work.now c dest.0 g s ts rs
+        → Cells form.new (with_args s (feed_all g dest.0 (g.preds dest.0) (lasts (length (g.preds dest.0)) rs) s.args)) }
 {
     let n = graph::predecessor_count(graph, dest);
     let mut i: u32 = 0;
@@ -113,9 +110,9 @@ fn append_arguments(graph: &[u32], form: &mut [u32], work: &[u32], c: Counts, de
 
 // Where a zero of this type takes two steps, the first of them.
 fn emit_step(form: &mut [u32], c: Counts, ty: u32, dest: Block) -> Counts
-    requires { ⌜ Ex (Can-emit (now form) c (dest .0)) ⌝ }
-    ensures { λ r. ⌜ (r ≡ with-values (r .values) c)
-        × ((s : Form) → Can-emit (now (form .entry)) c (dest .0) s → Shows (now (form .exit)) r (emit-step (step-of ty) (dest .0) s)) ⌝ }
+    requires { Ex (CanEmit form.old c dest.0) }
+    ensures { (result ≡ with_values result.values c)
+        × ((s : Form) → CanEmit form.old c dest.0 s → Shows form.new result (emit_step (step_of ty) dest.0 s)) }
 {
     let step = Type(ty).step();
     match step {
@@ -126,9 +123,9 @@ fn emit_step(form: &mut [u32], c: Counts, ty: u32, dest: Block) -> Counts
 
 // A zero of the sentinel's type in the block, which is placed and logged for it: once, however many steps it takes.
 fn emit_zero(form: &mut [u32], c: Counts, sentinel: Value, dest: Block) -> Finished
-    requires { ⌜ Ex (Can-zero (now form) c (sentinel .0) (dest .0)) ⌝ }
-    ensures { λ r. ⌜ ((s : Form) → Can-zero (now (form .entry)) c (sentinel .0) (dest .0) s
-        → Zeroed (now (form .exit)) c r (sentinel .0) (dest .0) s) ⌝ }
+    requires { Ex (CanZero form.old c sentinel.0 dest.0) }
+    ensures { (s : Form) → CanZero form.old c sentinel.0 dest.0 s
+        → Zeroed form.new c result sentinel.0 dest.0 s }
 {
     let ty = form::value_type(form, sentinel);
     form::place_block(form, dest);
@@ -141,9 +138,9 @@ fn emit_zero(form: &mut [u32], c: Counts, sentinel: Value, dest: Block) -> Finis
 
 // The parameter leaves its block and becomes another name of the value. What records it or has taken it keeps it.
 fn replace_param(form: &mut [u32], block: Block, param: Value, val: Value)
-    requires { ⌜ Ex (Can-alias (now form) (param .0) (block .0)) ⌝ }
-    ensures { λ r. ⌜ ((s : Form) → Can-alias (now (form .entry)) (param .0) (block .0) s
-        → Cells (now (form .exit)) (alias-of (block .0) (param .0) (val .0) s)) ⌝ }
+    requires { Ex (CanAlias form.old param.0 block.0) }
+    ensures { (s : Form) → CanAlias form.old param.0 block.0 s
+        → Cells form.new (alias_of block.0 param.0 val.0 s) }
 {
     form::remove_block_param(form, block, param);
     form::change_to_alias(form, param, val);
@@ -159,10 +156,10 @@ pub fn finish_predecessors_lookup(
     sentinel: Value,
     dest: Block,
 ) -> Finished
-    requires { ⌜ All-with (Can-settle (now graph) (now form) (now work) c (sentinel .0) (dest .0)) ⌝ }
-    ensures { λ r. ⌜ ((g : Graph) → (s : Form) → (ts : List Task) → (rs : List ℕ)
-        → Can-settle (now (graph .entry)) (now (form .entry)) (now (work .entry)) c (sentinel .0) (dest .0) g s ts rs
-        → Settled (now (form .exit)) (now (work .entry)) (c .call) r (sentinel .0) (dest .0) g s ts rs) ⌝ }
+    requires { AllWith (CanSettle graph.now form.old work.now c sentinel.0 dest.0) }
+    ensures { (g : Graph) → (s : Form) → (ts : List Task) → (rs : List ℕ)
+        → CanSettle graph.now form.old work.now c sentinel.0 dest.0 g s ts rs
+        → Settled form.new work.now c.call result sentinel.0 dest.0 g s ts rs }
 {
     let n = graph::predecessor_count(graph, dest);
     let verdict = agree(form, work, c, n, sentinel);

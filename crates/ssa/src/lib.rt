@@ -1,35 +1,28 @@
 // Reading a variable, and sealing a block: the rest of the original's ssa.rs, in its order and with its names.
-ghost use mathlib.Core.Path.{_≡_};
-ghost use mathlib.Core.Bool.{not};
-ghost use mathlib.Core.List.{List, _∷_};
-ghost use Prim.Native.Nat.{ℕ, _<_};
-ghost use lib.Dec.{eqb};
-ghost use lib.ListN.{length};
-ghost use Rattle·entity.specs.Limits.{limits, value-room};
-ghost use Rattle·definition.specs.Base.{upFrom};
-ghost use Rattle·definition.specs.Form.{Graph, Form};
-ghost use Rattle·definition.specs.Read.{write};
-ghost use Rattle·definition.specs.Session.{mark-sealed, seal-form, seal-each};
-ghost use Rattle·meaning.specs.Machine.{Task, Conf, conf, turn};
-ghost use Rattle·graph.specs.Seen.{Graph-with, Seen};
-ghost use Rattle·form.specs.Can.{Ex, Cells, Has-def};
-ghost use Rattle·ssa·specs.specs.Run.{Turn-with, Run-with, Under-way, Can-run, Ran};
-ghost use Rattle·ssa·specs.specs.Use.{State-with, At-rest, Can-read, Has-read, Can-fill, Has-filled, Can-seal, Has-sealed, Marked};
-use entity::Block;
-use entity::Branch;
-use entity::OptionValue;
-use entity::Value;
-use entity::Variable;
-use layout::Call;
-use layout::Counts;
+#![tactic(auto)]
+
+ghost use Rattle.std.specs.Prelude.{◌≡◌, not, List, ◌∷◌, ℕ, ◌<◌, eqb, length};
+ghost use Rattle.entity.specs.Limits.{limits, value_room};
+ghost use Rattle.definition.specs.Base.{up_from};
+ghost use Rattle.definition.specs.Form.{Graph, Form};
+ghost use Rattle.definition.specs.Read.{write};
+ghost use Rattle.definition.specs.Session.{mark_sealed, seal_form, seal_each};
+ghost use Rattle.meaning.specs.Machine.{Task, Conf, conf, turn};
+ghost use Rattle.graph.specs.Seen.{GraphWith, Seen};
+ghost use Rattle.form.specs.Can.{Ex, Cells, HasDef};
+ghost use Rattle.ssa.specs.Run.{TurnWith, RunWith, UnderWay, CanRun, Ran};
+ghost use Rattle.ssa.specs.Use.{StateWith, AtRest, CanRead, HasRead, CanFill, HasFilled, CanSeal, HasSealed, Marked};
+
+use entity::{Block, Branch, OptionValue, Value, Variable};
+use layout::{Call, Counts};
 use settle::Finished;
 
 // The value is the variable's definition in the block.
 pub fn def_var(form: &mut [u32], var: Variable, val: Value, block: Block)
-    requires { ⌜ Ex (Has-def (now form) (var .0) (block .0)) ⌝ }
-    requires { ⌜ val .0 < value-room limits ⌝ }
-    ensures { λ r. ⌜ ((s : Form) → Has-def (now (form .entry)) (var .0) (block .0) s
-        → Cells (now (form .exit)) (write (var .0) (block .0) (val .0) s)) ⌝ }
+    requires ex { Ex (HasDef form.old var.0 block.0) }
+    requires val_bound { val.0 < value_room limits }
+    ensures { (s : Form) → HasDef form.old var.0 block.0 s
+        → Cells form.new (write var.0 block.0 val.0 s) }
 {
     form::record_def(form, var, block, val);
 }
@@ -44,9 +37,9 @@ pub fn use_var(
     var: Variable,
     block: Block,
 ) -> Finished
-    requires { ⌜ State-with (Can-read (now graph) (now form) (now work) c (var .0) (block .0)) ⌝ }
-    ensures { λ r. ⌜ ((g : Graph) → (s : Form) → Can-read (now (graph .entry)) (now (form .entry)) (now (work .entry)) c (var .0) (block .0) g s
-        → Has-read (now (graph .entry)) (now (form .exit)) (now (work .exit)) r (var .0) (block .0) g s) ⌝ }
+    requires { StateWith (CanRead graph.now form.old work.old c var.0 block.0) }
+    ensures { (g : Graph) → (s : Form) → CanRead graph.now form.old work.old c var.0 block.0 g s
+        → HasRead graph.now form.new work.new result var.0 block.0 g s }
 {
     let here = form::definition(form, var, block);
     if let OptionValue::Some(val) = here {
@@ -62,10 +55,10 @@ pub fn use_var(
 
 // Seals the blocks by number; those that are sealed stay as they are.
 pub fn seal_all_blocks(graph: &mut [u32], form: &mut [u32], work: &mut [u32], c: Counts) -> Counts
-    requires { ⌜ State-with (At-rest (now graph) (now form) (now work) c) ⌝ }
-    ensures { λ r. ⌜ ((g : Graph) → (s : Form) → At-rest (now (graph .entry)) (now (form .entry)) (now (work .entry)) c g s
-        → At-rest (now (graph .exit)) (now (form .exit)) (now (work .exit)) r
-        (seal-each (upFrom 0 (g .blocks)) g s .0) (seal-each (upFrom 0 (g .blocks)) g s .1)) ⌝ }
+    requires { StateWith (AtRest graph.old form.old work.old c) }
+    ensures { (g : Graph) → (s : Form) → AtRest graph.old form.old work.old c g s
+        → AtRest graph.new form.new work.new result
+        (seal_each (up_from 0 g.blocks) g s).0 (seal_each (up_from 0 g.blocks) g s).1 }
 {
     let n = graph::block_count(graph);
     let mut d = c;
@@ -85,9 +78,9 @@ pub fn seal_one_block(
     c: Counts,
     block: Block,
 ) -> Counts
-    requires { ⌜ State-with (Can-seal (now graph) (now form) (now work) c (block .0)) ⌝ }
-    ensures { λ r. ⌜ ((g : Graph) → (s : Form) → Can-seal (now (graph .entry)) (now (form .entry)) (now (work .entry)) c (block .0) g s
-        → Has-sealed (now (graph .exit)) (now (form .exit)) (now (work .exit)) r (block .0) g s) ⌝ }
+    requires { StateWith (CanSeal graph.old form.old work.old c block.0) }
+    ensures { (g : Graph) → (s : Form) → CanSeal graph.old form.old work.old c block.0 g s
+        → HasSealed graph.new form.new work.new result block.0 g s }
 {
     if graph::is_sealed(graph, block) {
         return c;
@@ -105,9 +98,9 @@ fn settle_pending(
     c: Counts,
     block: Block,
 ) -> Counts
-    requires { ⌜ State-with (Marked (now graph) (now form) (now work) c (block .0)) ⌝ }
-    ensures { λ r. ⌜ ((g : Graph) → (s : Form) → Marked (now (graph .entry)) (now (form .entry)) (now (work .entry)) c (block .0) g s
-        → At-rest (now (graph .entry)) (now (form .exit)) (now (work .exit)) r (mark-sealed g (block .0)) (seal-form g s (block .0))) ⌝ }
+    requires { StateWith (Marked graph.now form.old work.old c block.0) }
+    ensures { (g : Graph) → (s : Form) → Marked graph.now form.old work.old c block.0 g s
+        → AtRest graph.now form.new work.new result (mark_sealed g block.0) (seal_form g s block.0) }
 {
     let mut waiting = [0u32; entity::WAIT_ROOM];
     let n = form::take_pending(form, block, &mut waiting);
@@ -133,10 +126,10 @@ fn predecessors_lookup(
     sentinel: Value,
     dest: Block,
 ) -> Counts
-    requires { ⌜ State-with (Can-fill (now graph) (now form) (now work) c (var .0) (sentinel .0) (dest .0)) ⌝ }
-    ensures { λ r. ⌜ ((g : Graph) → (s : Form)
-        → Can-fill (now (graph .entry)) (now (form .entry)) (now (work .entry)) c (var .0) (sentinel .0) (dest .0) g s
-        → Has-filled (now (form .exit)) (now (work .exit)) (c .call) r (var .0) (sentinel .0) (dest .0) g s) ⌝ }
+    requires { StateWith (CanFill graph.now form.old work.old c var.0 sentinel.0 dest.0) }
+    ensures { (g : Graph) → (s : Form)
+        → CanFill graph.now form.old work.old c var.0 sentinel.0 dest.0 g s
+        → HasFilled form.new work.new c.call result var.0 sentinel.0 dest.0 g s }
 {
     let ty = graph::variable_type(graph, var);
     let d = lookup::begin_predecessors_lookup(graph, work, c, sentinel, dest);
@@ -146,9 +139,9 @@ fn predecessors_lookup(
 }
 
 pub fn has_any_predecessors(graph: &[u32], block: Block) -> bool
-    requires { ⌜ Graph-with (Seen (now graph)) ⌝ }
-    requires { ⌜ block .0 < limits .blocks ⌝ }
-    ensures { λ r. ⌜ ((g : Graph) → Seen (now (graph .entry)) g → r ≡ not (eqb (length (g .preds (block .0))) 0)) ⌝ }
+    requires graph_with { GraphWith (Seen graph.now) }
+    requires block_lt_blocks { block.0 < limits.blocks }
+    ensures { (g : Graph) → Seen graph.now g → result ≡ not (eqb (length (g.preds block.0)) 0) }
 {
     graph::predecessor_count(graph, block) != 0
 }
@@ -162,10 +155,10 @@ fn run_state_machine(
     var: Variable,
     ty: u32,
 ) -> Finished
-    requires { ⌜ Run-with (Can-run (now graph) (now form) (now work) c (var .0) ty) ⌝ }
-    ensures { λ r. ⌜ ((g : Graph) → (k : Conf) → (x : ℕ) → (s : Form)
-        → Can-run (now (graph .entry)) (now (form .entry)) (now (work .entry)) c (var .0) ty g k x s
-        → Ran (now (form .exit)) (now (work .exit)) (c .call) r x s) ⌝ }
+    requires { RunWith (CanRun graph.now form.old work.old c var.0 ty) }
+    ensures { (g : Graph) → (k : Conf) → (x : ℕ) → (s : Form)
+        → CanRun graph.now form.old work.old c var.0 ty g k x s
+        → Ran form.new work.new c.call result x s }
 {
     let mut d = c;
     while 0 < d.calls {
@@ -185,10 +178,10 @@ fn step(
     var: Variable,
     ty: u32,
 ) -> Counts
-    requires { ⌜ Turn-with (λ g q ts rs s. Under-way (now graph) (now form) (now work) c (var .0) ty g (conf (q ∷ ts) rs s)) ⌝ }
-    ensures { λ r. ⌜ ((g : Graph) → (q : Task) → (ts : List Task) → (rs : List ℕ) → (s : Form)
-        → Under-way (now (graph .entry)) (now (form .entry)) (now (work .entry)) c (var .0) ty g (conf (q ∷ ts) rs s)
-        → Under-way (now (graph .entry)) (now (form .exit)) (now (work .exit)) r (var .0) ty g (turn g (var .0) (q ∷ ts) rs s)) ⌝ }
+    requires { TurnWith (λ g q ts rs s. UnderWay graph.now form.old work.old c var.0 ty g (conf (q ∷ ts) rs s)) }
+    ensures { (g : Graph) → (q : Task) → (ts : List Task) → (rs : List ℕ) → (s : Form)
+        → UnderWay graph.now form.old work.old c var.0 ty g (conf (q ∷ ts) rs s)
+        → UnderWay graph.now form.new work.new result var.0 ty g (turn g var.0 (q ∷ ts) rs s) }
 {
     let popped = work::pop_call(work, c);
     let call = popped.0;

@@ -1,17 +1,16 @@
 // The calls in turn, over lists of just the needed length: each is answered, and its answer written beside those before it.
-ghost use mathlib.Core.Path.{_≡_};
-ghost use mathlib.Core.List.{List};
-ghost use Prim.Native.Nat.{suc, _<_};
-ghost use lib.ListN.{length, getD};
-ghost use Rattle·entity.specs.Limits.{limits};
-ghost use Rattle·entity.specs.Options.{value-of};
-ghost use Rattle·definition.specs.Session.{Done, State, answered, step, session};
-ghost use Rattle·definition.specs.Whole.{calls};
-ghost use Rattle·layout.specs.Outcome.{lent, Same-lists, shown};
-ghost use Rattle·calls.specs.Calls.{State-with};
-ghost use Rattle·turns·specs.specs.Turns.{next-call, Told, Turned, Lined, call-at, Exact};
-use entity::OptionValue;
-use entity::Value;
+#![tactic(auto)]
+
+ghost use Rattle.std.specs.Prelude.{◌≡◌, List, suc, ◌<◌, length, get_or};
+ghost use Rattle.entity.specs.Limits.{limits};
+ghost use Rattle.entity.specs.Options.{value_of};
+ghost use Rattle.definition.specs.Session.{Done, State, answered, step, session};
+ghost use Rattle.definition.specs.Whole.{calls};
+ghost use Rattle.layout.specs.Outcome.{lent, SameLists, shown};
+ghost use Rattle.calls.specs.Calls.{StateWith};
+ghost use Rattle.turns.specs.Turns.{next_call, Told, Turned, Lined, call_at, Exact};
+
+use entity::{OptionValue, Value};
 use layout::Counts;
 
 // The kind of a definition by an earlier answer, and the kind of the use that gave it.
@@ -21,8 +20,8 @@ const USE: u32 = 6;
 
 // The next call bears the next number.
 fn next_call(c: Counts) -> Counts
-    requires { ⌜ c .call < limits .calls ⌝ }
-    ensures { λ r. ⌜ r ≡ next-call c ⌝ }
+    requires { c.call < limits.calls }
+    ensures { result ≡ next_call c }
 {
     Counts {
         calls: c.calls,
@@ -34,9 +33,9 @@ fn next_call(c: Counts) -> Counts
 
 // What the use at place y answered; none where there is no accepted use before place i.
 fn answered(kinds: &[u32], codes: &[u32], numbers: &[u32], i: usize, y: u32) -> OptionValue
-    requires { ⌜ (i < length (now kinds)) × (length (now codes) ≡ length (now kinds)) × (length (now numbers) ≡ length (now kinds)) ⌝ }
-    ensures { λ r. ⌜ ((ds : List Done) → Told (now (kinds .entry)) (now (codes .entry)) (now (numbers .entry)) ds → i ≡ length ds
-        → value-of r ≡ answered ds y) ⌝ }
+    requires { (i < length kinds.now) × (length codes.now ≡ length kinds.now) × (length numbers.now ≡ length kinds.now) }
+    ensures { (ds : List Done) → Told kinds.now codes.now numbers.now ds → i ≡ length ds
+        → value_of result ≡ answered ds y }
 {
     let k = y as usize;
     if i <= k {
@@ -53,9 +52,9 @@ fn answered(kinds: &[u32], codes: &[u32], numbers: &[u32], i: usize, y: u32) -> 
 
 // The same where the call at place i is of kind 5. The others name no earlier use, so none is looked for.
 fn named_answer(kinds: &[u32], codes: &[u32], numbers: &[u32], i: usize, y: u32) -> OptionValue
-    requires { ⌜ (i < length (now kinds)) × (length (now codes) ≡ length (now kinds)) × (length (now numbers) ≡ length (now kinds)) ⌝ }
-    ensures { λ r. ⌜ ((ds : List Done) → Told (now (kinds .entry)) (now (codes .entry)) (now (numbers .entry)) ds → i ≡ length ds
-        → getD (now (kinds .entry)) i 0 ≡ 5 → value-of r ≡ answered ds y) ⌝ }
+    requires { (i < length kinds.now) × (length codes.now ≡ length kinds.now) × (length numbers.now ≡ length kinds.now) }
+    ensures { (ds : List Done) → Told kinds.now codes.now numbers.now ds → i ≡ length ds
+        → get_or kinds.now i 0 ≡ 5 → value_of result ≡ answered ds y }
 {
     if kinds[i] != DEFINE_ANSWER {
         return OptionValue::None;
@@ -77,13 +76,13 @@ fn turn(
     c: Counts,
     i: usize,
 ) -> Counts
-    requires { ⌜ i < length (now kinds) ⌝ }
-    requires { ⌜ Lined (length (now kinds)) (now xs) (now ys) (now zs) (now codes) (now numbers) ⌝ }
-    requires { ⌜ State-with (Turned (now kinds) (now codes) (now numbers) (now graph) (now form) (now work) c i) ⌝ }
-    ensures { λ r. ⌜ ((t : State)
-        → Turned (now (kinds .entry)) (now (codes .entry)) (now (numbers .entry)) (now (graph .entry)) (now (form .entry)) (now (work .entry)) c i t
-        → Turned (now (kinds .entry)) (now (codes .exit)) (now (numbers .exit)) (now (graph .exit)) (now (form .exit)) (now (work .exit)) r (suc i)
-        (step t (call-at (now (kinds .entry)) (now (xs .entry)) (now (ys .entry)) (now (zs .entry)) i))) ⌝ }
+    requires i_in_bounds { i < length kinds.now }
+    requires lined { Lined (length kinds.now) xs.now ys.now zs.now codes.old numbers.old }
+    requires state_with { StateWith (Turned kinds.now codes.old numbers.old graph.old form.old work.old c i) }
+    ensures { (t : State)
+        → Turned kinds.now codes.old numbers.old graph.old form.old work.old c i t
+        → Turned kinds.now codes.new numbers.new graph.new form.new work.new result (suc i)
+        (step t (call_at kinds.now xs.now ys.now zs.now i)) }
 {
     let y = ys[i];
     let w = named_answer(kinds, codes, numbers, i, y);
@@ -106,10 +105,10 @@ pub fn run(
     form: &mut [u32],
     work: &mut [u32],
 )
-    requires { ⌜ Lined (length (now kinds)) (now xs) (now ys) (now zs) (now codes) (now numbers) ⌝ }
-    requires { ⌜ Exact (now graph) (now form) (now work) ⌝ }
-    ensures { λ r. ⌜ Same-lists (lent (now (codes .exit)) (now (numbers .exit)) (now (graph .exit)) (now (form .exit)) (now (work .exit)))
-        (shown (session (calls (now (kinds .entry)) (now (xs .entry)) (now (ys .entry)) (now (zs .entry))))) ⌝ }
+    requires lined { Lined (length kinds.now) xs.now ys.now zs.now codes.old numbers.old }
+    requires exact { Exact graph.old form.old work.old }
+    ensures { SameLists (lent codes.new numbers.new graph.new form.new work.new)
+        (shown (session (calls kinds.now xs.now ys.now zs.now))) }
 {
     clear::clear(graph, form);
     let mut c = Counts {

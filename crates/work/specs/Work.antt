@@ -1,37 +1,35 @@
 -- What the functions over the two stacks ask. Each asks it of some stacks that the cells show, and gives its answer for all of them.
 -- Assumes nothing.
-use Prim.Native.Nat.{ℕ, _≤_, _<_}
-use mathlib.Core.List.{List, _∷_, reverse}
-use lib.ListN.{length, take}
-use Rattle·entity.specs.Limits.{limits, call-room, result-room}
-use Rattle·meaning.specs.Machine.{Task}
-use Rattle·layout.specs.declared.Counts.{Counts}
-use Rattle·layout.specs.Layout.{Stacks}
+use Rattle.std.specs.Prelude.{ℕ, ◌≤◌, ◌<◌, List, ◌∷◌, reverse, length, take}
+use Rattle.entity.specs.Limits.{limits, call_room, result_room}
+use Rattle.meaning.specs.Machine.{Task}
+use Rattle.layout.specs.declared.Counts.{Counts}
+use Rattle.layout.specs.Layout.{Stacks}
 
 -- there are stacks such that
 abbrev pub Some : (List Task → List ℕ → Type 0) → Type 0
 Some P = (ts : List Task) × (rs : List ℕ) × P ts rs
 
 -- one more call can be scheduled
-pub record Can-call (cells : List ℕ) (c : Counts) (ts : List Task) (rs : List ℕ) : Type 0 where
+pub record CanCall (cells : List ℕ) (c : Counts) (ts : List Task) (rs : List ℕ) : Type 0 where
   pub stacks : Stacks cells c ts rs
-  pub room : length ts < call-room limits
+  pub room : length ts < call_room limits
 
 -- q is the call scheduled last
-pub record Can-pop (cells : List ℕ) (c : Counts) (q : Task) (ts : List Task) (rs : List ℕ) : Type 0 where
+pub record CanPop (cells : List ℕ) (c : Counts) (q : Task) (ts : List Task) (rs : List ℕ) : Type 0 where
   pub stacks : Stacks cells c (q ∷ ts) rs
-  pub room : length ts < call-room limits
+  pub room : length ts < call_room limits
 
 -- one more result can be held
-pub record Can-answer (cells : List ℕ) (c : Counts) (ts : List Task) (rs : List ℕ) : Type 0 where
+pub record CanAnswer (cells : List ℕ) (c : Counts) (ts : List Task) (rs : List ℕ) : Type 0 where
   pub stacks : Stacks cells c ts rs
-  pub room : length rs < result-room limits
+  pub room : length rs < result_room limits
 
 -- the last n results can be read
-pub record Can-take (cells : List ℕ) (c : Counts) (n : ℕ) (ts : List Task) (rs : List ℕ) : Type 0 where
+pub record CanTake (cells : List ℕ) (c : Counts) (n : ℕ) (ts : List Task) (rs : List ℕ) : Type 0 where
   pub stacks : Stacks cells c ts rs
   pub enough : n ≤ length rs
-  pub height : length rs ≤ result-room limits
+  pub height : length rs ≤ result_room limits
 
 -- the last n results, the oldest first: as the machine hands them to `settle`
 abbrev pub lasts : ℕ → List ℕ → List ℕ

@@ -1,31 +1,26 @@
 // The two stacks of the lookup machine in lent cells: scheduled calls, and results. Nothing above this crate mentions their cells.
-ghost use mathlib.Core.Path.{_≡_};
-ghost use mathlib.Core.List.{List, _∷_};
-ghost use Prim.Native.Nat.{ℕ, _<_};
-ghost use lib.ListN.{getD};
-ghost use Rattle·meaning.specs.Machine.{Task};
-ghost use Rattle·layout.specs.Counts.{one-call, call-less, one-result, task, Small-call};
-ghost use Rattle·layout.specs.Layout.{Stacks};
-ghost use Rattle·work·specs.specs.Work.{Some, Can-call, Can-pop, Can-answer, Can-take, lasts};
-use entity::Block;
-use entity::Branch;
-use entity::Value;
-use layout::CALL_BLOCKS;
-use layout::CALL_VALUES;
-use layout::Call;
-use layout::Counts;
-use layout::RESULTS;
+#![tactic(auto)]
+
+ghost use Rattle.std.specs.Prelude.{◌≡◌, List, ◌∷◌, ℕ, ◌<◌, get_or};
+ghost use Rattle.meaning.specs.Machine.{Task};
+ghost use Rattle.layout.specs.Counts.{one_call, call_less, one_result, task, SmallCall};
+ghost use Rattle.layout.specs.Layout.{Stacks};
+ghost use Rattle.work.specs.Work.{Some, CanCall, CanPop, CanAnswer, CanTake, lasts};
+
+use entity::{Block, Branch, Value};
+use layout::{CALL_BLOCKS, CALL_VALUES, Call, Counts, RESULTS};
 
 // The call that was scheduled last, and the counts without it.
+#[derive(Clone, Copy)]
 pub struct Popped(pub Call, pub Counts);
 
 // Two cells hold a call: a value of 0 marks a read, any other is the parameter to settle, plus one.
 pub fn push_call(work: &mut [u32], c: Counts, call: Call) -> Counts
-    requires { ⌜ Some (Can-call (now work) c) ⌝ }
-    requires { ⌜ Small-call call ⌝ }
-    ensures { λ r. ⌜ (r ≡ one-call c)
-        × ((ts : List Task) → (rs : List ℕ) → Can-call (now (work .entry)) c ts rs
-        → Stacks (now (work .exit)) (one-call c) (task call ∷ ts) rs) ⌝ }
+    requires some { Some (CanCall work.old c) }
+    requires small_call { SmallCall call }
+    ensures { (result ≡ one_call c)
+        × ((ts : List Task) → (rs : List ℕ) → CanCall work.old c ts rs
+        → Stacks work.new (one_call c) (task call ∷ ts) rs) }
 {
     let h = c.calls;
     match call {
@@ -44,10 +39,10 @@ pub fn push_call(work: &mut [u32], c: Counts, call: Call) -> Counts
 
 // Its cells are left as they are: what is above the top is not read, and a session clears both stacks at its end.
 pub fn pop_call(work: &[u32], c: Counts) -> Popped
-    requires { ⌜ ((q : Task) × Some (Can-pop (now work) c q)) ⌝ }
-    ensures { λ r. ⌜ (r .1 ≡ call-less c)
-        × ((q : Task) → (ts : List Task) → (rs : List ℕ) → Can-pop (now (work .entry)) c q ts rs
-        → ((task (r .0) ≡ q) × Stacks (now (work .entry)) (call-less c) ts rs)) ⌝ }
+    requires { (q : Task) × Some (CanPop work.now c q) }
+    ensures { (result.1 ≡ call_less c)
+        × ((q : Task) → (ts : List Task) → (rs : List ℕ) → CanPop work.now c q ts rs
+        → ((task result.0 ≡ q) × Stacks work.now (call_less c) ts rs)) }
 {
     let h = c.calls - 1;
     let v = work[CALL_VALUES + h];
@@ -61,10 +56,10 @@ pub fn pop_call(work: &[u32], c: Counts) -> Popped
 
 // A read's answer waits here until its block is settled.
 pub fn push_result(work: &mut [u32], c: Counts, val: Value) -> Counts
-    requires { ⌜ Some (Can-answer (now work) c) ⌝ }
-    ensures { λ r. ⌜ (r ≡ one-result c)
-        × ((ts : List Task) → (rs : List ℕ) → Can-answer (now (work .entry)) c ts rs
-        → Stacks (now (work .exit)) (one-result c) ts (val .0 ∷ rs)) ⌝ }
+    requires { Some (CanAnswer work.old c) }
+    ensures { (result ≡ one_result c)
+        × ((ts : List Task) → (rs : List ℕ) → CanAnswer work.old c ts rs
+        → Stacks work.new (one_result c) ts (val.0 ∷ rs)) }
 {
     let h = c.results;
     work[RESULTS + h] = val.0;
@@ -73,9 +68,9 @@ pub fn push_result(work: &mut [u32], c: Counts, val: Value) -> Counts
 
 // Of the last n results, the one that k others of them are older than.
 pub fn result(work: &[u32], c: Counts, n: u32, k: u32) -> Value
-    requires { ⌜ Some (Can-take (now work) c n) ⌝ }
-    requires { ⌜ k < n ⌝ }
-    ensures { λ r. ⌜ ((ts : List Task) → (rs : List ℕ) → Can-take (now (work .entry)) c n ts rs → r .0 ≡ getD (lasts n rs) k 0) ⌝ }
+    requires some { Some (CanTake work.now c n) }
+    requires k_lt_n { k < n }
+    ensures { (ts : List Task) → (rs : List ℕ) → CanTake work.now c n ts rs → result.0 ≡ get_or (lasts n rs) k 0 }
 {
     let i = c.results - n as usize + k as usize;
     Value(work[RESULTS + i])

@@ -1,0 +1,12 @@
+-- `copy_back` meets its contract: the cells show the form with the blocks behind marked, and the way to `from` gets shorter. A block on the way has a
+-- single predecessor, so the loop is never left in the middle.
+-- Assumes nothing.
+use Rattle.entity.specs.Limits.{limits}
+use Rattle.lookup.proofs.Copies.{far, Copied}
+use Rattle.lookup.proofs.copy_back.Given as goal
+
+abbrev pub invariant-loop-b : goal.invariant-loop-b
+invariant-loop-b l = Copied l.graph l.initial.form l.from.0 l.var.0 l.val.0 l.initial.b.0 l.form l.b.0
+
+abbrev pub decreases-loop-b : goal.decreases-loop-b
+decreases-loop-b l = far l.graph l.from.0 limits.blocks l.b.0

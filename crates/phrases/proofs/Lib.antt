@@ -1,2 +1,0 @@
--- The law that the proofs share. Assumes nothing.
-pub mod Parts
