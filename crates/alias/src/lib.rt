@@ -1,46 +1,51 @@
 // Resolving an alias over a lent list of targets.
 #![tactic(auto)]
 
-ghost use Rattle.std.specs.Prelude.{ℕ};
+ghost use Rattle.std.specs.Prelude.{ℕ, ◌≡◌};
+ghost use Rattle.alias.specs.Answer.{code_of, number_of, refusal_code};
 ghost use Rattle.definition.specs.Resolve.{Ends, Resolved};
 
 use entity::Value;
 
-// Code 0 with the number found; 6 for a number past the list and 14 for a walk without an end, each with number 0.
-#[derive(Clone, Copy)]
-pub struct Answer {
-    pub code: u32,
-    pub number: u32,
+// Why a value has no end: its number is past the list, or the walk from it leaves the list or never ends.
+#[derive(Clone, Copy, Debug, PartialEq, Eq)]
+pub enum Unresolved {
+    Absent,
+    Endless,
+}
+
+impl Unresolved {
+    // The code by which a host in C knows it.
+    pub fn code(self) -> u32
+        ensures { result ≡ refusal_code self }
+    {
+        match self {
+            Unresolved::Absent => 6,
+            Unresolved::Endless => 14,
+        }
+    }
 }
 
 // Follows targets from `value` until a value that is its own target. It takes a turn for each link, however long the list is, and one to see the end.
-// A walk that ends never comes to a value twice, so one that has taken as many turns as the list has cells doesn't end: what is left of them falls.
-pub fn resolve(targets: &[u32], value: Value) -> Answer
-    ensures { Resolved targets.now value.0 result.code result.number }
+// A walk that ends never comes to a value twice, so one that has taken as many turns as the list has cells doesn't end.
+pub fn resolve(targets: &[u32], value: Value) -> Result<Value, Unresolved>
+    ensures { Resolved targets.now value.0 (code_of result) (number_of result) }
 {
     let mut at = value.0;
     if targets.len() <= at as usize {
-        return Answer { code: 6, number: 0 };
+        return Err(Unresolved::Absent);
     }
-    let mut steps = 0;
-    while steps < targets.len() {
+    for _ in 0..targets.len() {
         let next = targets[at as usize];
         if next == at {
-            return Answer {
-                code: 0,
-                number: at,
-            };
+            return Ok(Value(at));
         }
         if targets.len() <= next as usize {
             break;
         }
         at = next;
-        steps += 1;
     }
-    Answer {
-        code: 14,
-        number: 0,
-    }
+    Err(Unresolved::Endless)
 }
 
 // The end of a walk that is known to end: a load and a test for each link, and one of each to see the end.

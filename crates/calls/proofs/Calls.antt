@@ -1,31 +1,32 @@
 -- Between two calls the cells show a steady state with idle stacks, so a use and a seal can run; what they leave is such a state again.
 -- Assumes nothing.
-use Prim.Native.Nat.{ℕ, zero, suc, ◌-◌, ◌<◌}
+use Prim.Native.Nat.{ℕ, ◌-◌, ◌<◌}
 use mathlib.Core.Path.{◌≡◌, ap}
-use mathlib.Core.Bool.{Bool, false}
-use mathlib.Core.Logic.{inl, inr}
+use mathlib.Core.Bool.{false}
+use mathlib.Core.Logic.{◌⊎◌, inl, inr}
 use mathlib.Core.List.{List}
+use Rattle.std.specs.Prelude.{Result, Ok}
 use lib.Dec.{leb}
 use lib.ListN.{length, get_or-eq_default}
-use native.Mathlib.Omega.{arith}
 use borrow.Author.Tests.{leb-false}
 use Rattle.definition.specs.Form.{Graph, Form}
-use Rattle.definition.specs.Session.{Done, State, no, ok, reply}
+use Rattle.definition.specs.Session.{Done, State, Reply as Defined, no, ok, reply}
 use Rattle.meaning.proofs.Steady.{steady_of}
-use Rattle.layout.proofs.Cells.{below?}
 use Rattle.layout.specs.declared.Counts.{Counts}
 use Rattle.graph.specs.Seen.{GraphWith, Seen}
 use Rattle.form.specs.Can.{Cells}
 use Rattle.reply.specs.declared.Reply.{Reply}
-use Rattle.reply.specs.Replies.{SomeState, refusal, acceptance}
+use Rattle.reply.specs.declared.Accepted.{Accepted}
+use Rattle.reply.specs.declared.Refusal.{Refusal}
+use Rattle.reply.specs.Replies.{SomeState, Replies, taken, reply_of}
 use Rattle.reply.proofs.Asked.{seen}
-use Rattle.reply.proofs.Answered.{tested, refused, accepted}
+use Rattle.reply.proofs.Answered.{accepted}
 use Rattle.ssa.specs.Use.{AtRest, CanRead, CanSeal}
 use Rattle.calls.specs.Calls.{StateWith, Between, Replied}
 
 -- a number that is not past the count names something that is there
-pub named : {n b : ℕ} {z : Bool} → z ≡ leb n b → z ≡ false → b < n
-named {n} {b} p q = leb-false n b (tested p q)
+pub named : {n b : ℕ} → leb n b ≡ false → b < n
+named {n} {b} p = leb-false n b p
 
 module _ {gl fl wl : List ℕ} {c : Counts} {t : State} (h : Between gl fl wl c t) where
   pub at_rest : AtRest gl fl wl c t.graph t.form
@@ -45,14 +46,15 @@ module _ {gl fl wl : List ℕ} {c : Counts} {t : State} (h : Between gl fl wl c 
   pub seal_can : {b : ℕ} → b < t.graph.blocks → CanSeal gl fl wl c b t.graph t.form
   seal_can lb = record { rest = at_rest; known = lb }
 
-  -- refused: the cells are as they were
-  pub turned_down : {r : Reply} {k : ℕ} → r ≡ refusal k c → Replied gl fl wl r t.graph t.form (no k)
-  turned_down e = record { replies = refused h.showing e; idle = h.idle }
+  -- the stacks are as they were
+  pub idle_still : {gl' fl' : List ℕ} {r : Reply} {d : Defined} → Replies gl' fl' r t.graph t.form d → Replied gl' fl' wl r t.graph t.form d
+  idle_still p = record { replies = p; idle = h.idle }
 
 -- accepted, with a steady state again
-pub taken_on : {gl fl wl : List ℕ} {d : Counts} {g g' : Graph} {s s' : Form} {r : Reply} {m n : ℕ} → r ≡ acceptance m d → m ≡ n → AtRest gl fl wl d g' s' → Replied gl fl wl r g s (ok n g' s')
-taken_on e same l = record {
-  replies = accepted e same record { graph = l.graph; form = l.shown.form; calls = l.shown.work.calls; results = l.shown.work.results };
+pub taken_on : {gl fl wl : List ℕ} {d : Counts} {g g' : Graph} {s s' : Form} (c : Counts) (a : Result Accepted Refusal) {m n : ℕ} → a ≡ Ok (taken m d) → m ≡ n
+    → AtRest gl fl wl d g' s' → Replied gl fl wl (reply_of c a) g s (ok n g' s')
+taken_on c a e same l = record {
+  replies = accepted c a e same record { graph = l.graph; form = l.shown.form; calls = l.shown.work.calls; results = l.shown.work.results };
   idle = l.shown.work.cells;
 }
 
@@ -67,15 +69,6 @@ module _ {gl fl wl : List ℕ} {c : Counts} (p : StateWith (Between gl fl wl c))
 pub difference : {m n a b : ℕ} → m ≡ a → n ≡ b → m - n ≡ a - b
 difference p q = rw (p, q)
 
--- k is none of 1 to n
-abbrev pub NotUpTo : ℕ → ℕ → Type 0
-NotUpTo zero k = Unit {0}
-NotUpTo (suc n) k = NotUpTo n k × (k ≡ suc n → ⊥)
-
-only_zero : (n k : ℕ) → NotUpTo n k → k < suc n → k ≡ 0
-only_zero zero k o l = omega arith
-only_zero (suc n) k o l = only_zero n k o.0 (omega (arith, o.1))
-
--- a kind that is none of the seventeen
-pub unknown : (g : Graph) (s : Form) (ds : List Done) (x y z k : ℕ) → NotUpTo 17 k → reply g s ds x y z k ≡ no 3
-unknown g s ds x y z k o = elim (below? k 18) [ inl l ↦ ap (reply g s ds x y z) (only_zero 17 k o l) | inr l ↦ rw (get_or-eq_default _ _ l) ]
+-- a number that no kind has
+pub unknown : (g : Graph) (s : Form) (ds : List Done) (x y z k : ℕ) → (k ≡ 0) ⊎ (17 < k) → reply g s ds x y z k ≡ no 3
+unknown g s ds x y z k o = elim o [ inl e ↦ ap (reply g s ds x y z) e | inr l ↦ rw (get_or-eq_default _ _ l) ]

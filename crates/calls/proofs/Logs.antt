@@ -74,6 +74,7 @@ pub each_more : (bs : List ℕ) (g : Graph) (s : Form) → length s.zeros ≤ le
 each_more [] g s = le_refl _
 each_more (b ∷ bs) g s = by (g.sealed b) refl (each_more bs g s) (le_trans (seal_more g s b) (each_more bs (mark_sealed g b) (seal_form g s b)))
   where
-    by : (z : Bool) → g.sealed b ≡ z → More s (seal_each bs g s).1 → More s (seal_each bs (mark_sealed g b) (seal_form g s b)).1 → More s (seal_each (b ∷ bs) g s).1
+    by : (z : Bool) → g.sealed b ≡ z → More s (seal_each bs g s).1 → More s (seal_each bs (mark_sealed g b) (seal_form g s b)).1 → More s
+        (seal_each (b ∷ bs) g s).1
     by true e p q = rw (e, seal_each) p
     by false e p q = rw (e, seal_each) q

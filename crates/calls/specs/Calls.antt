@@ -1,12 +1,14 @@
 -- What one call over the lent cells asks and promises.
 -- Assumes nothing.
-use Rattle.std.specs.Prelude.{ℕ, List, []}
+use Rattle.std.specs.Prelude.{ℕ, List, [], Result}
 use Rattle.definition.specs.Form.{Graph, Form}
 use Rattle.definition.specs.Session.{State, Reply as Defined}
 use Rattle.layout.specs.declared.Counts.{Counts}
 use Rattle.layout.specs.Layout.{Piles}
 use Rattle.reply.specs.declared.Reply.{Reply}
-use Rattle.reply.specs.Replies.{Showing, Replies}
+use Rattle.reply.specs.declared.Accepted.{Accepted}
+use Rattle.reply.specs.declared.Refusal.{Refusal}
+use Rattle.reply.specs.Replies.{Showing, Replies, reply_of}
 
 -- there is a state such that
 abbrev pub StateWith : (State → Type 0) → Type 0
@@ -22,6 +24,6 @@ pub record Replied (gl fl wl : List ℕ) (r : Reply) (g : Graph) (s : Form) (d :
   pub replies : Replies gl fl r g s d
   pub idle : Piles wl [] []
 
--- for each state that the cells show, r answers the reply f
-abbrev pub Answers : List ℕ → List ℕ → List ℕ → List ℕ → List ℕ → List ℕ → Counts → Reply → (Graph → Form → Defined) → Type 0
-Answers gl fl wl gl' fl' wl' c r f = (t : State) → Between gl fl wl c t → Replied gl' fl' wl' r t.graph t.form (f t.graph t.form)
+-- for each state that the cells show, a answers the reply f
+abbrev pub Answers : List ℕ → List ℕ → List ℕ → List ℕ → List ℕ → List ℕ → Counts → Result Accepted Refusal → (Graph → Form → Defined) → Type 0
+Answers gl fl wl gl' fl' wl' c a f = (t : State) → Between gl fl wl c t → Replied gl' fl' wl' (reply_of c a) t.graph t.form (f t.graph t.form)

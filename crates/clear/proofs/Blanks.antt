@@ -1,38 +1,16 @@
--- Blanking cell by cell blanks the first n, and blank cells are the render of the empty session, since all of its tables hold 0.
+-- Blank cells are the render of the empty session, since all of its tables hold 0.
 -- Assumes nothing.
-use Prim.Native.Nat.{ℕ, zero, suc, ◌+◌, ◌<◌, ◌≤◌}
-use mathlib.Core.Path.{◌≡◌, refl, sym, ap, ◌∙◌}
-use mathlib.Core.List.{List, [], ◌∷◌, ◌++◌}
-use native.Mathlib.Nat.{not-suc-le-zero, le_of_suc-le-suc}
-use native.Mathlib.Numerals.{add-one}
+use Prim.Native.Nat.{ℕ, ◌<◌, ◌≤◌}
+use mathlib.Core.Path.{◌≡◌, ap}
+use mathlib.Core.List.{List, [], ◌++◌}
 use native.Mathlib.Omega.{arith}
-use lib.ListN.{length, get_or, set, drop, replicate, length-replicate, get_or-replicate}
+use lib.ListN.{length, get_or, drop, replicate, length-replicate, get_or-replicate}
 use Rattle.definition.specs.Session.{empty}
 use Rattle.layout.specs.Cells.{sum, Table, Holds, render}
 use Rattle.layout.specs.Layout.{graph_sizes, form_sizes, work_sizes, render_graph, render_form, render_work, graph_tables, form_tables}
 use Rattle.layout.proofs.Cells.{holds_render}
 use Rattle.layout.proofs.Zeros.{zeros_graph, zeros_form, zeros_work}
 use Rattle.clear.specs.Cleared.{blanked}
-
-pub none_yet : (l : List ℕ) → l ≡ blanked 0 l
-unfolding blanked
-none_yet l = refl
-
-one_more : (i : ℕ) (l : List ℕ) → i < length l → set (blanked i l) i 0 ≡ blanked (i + 1) l
-unfolding blanked
-one_more i l h = by i l h ∙ ap (λ (n : ℕ). blanked n l) (sym (add-one i))
-  where
-    by : (i : ℕ) (l : List ℕ) → i < length l → set (blanked i l) i 0 ≡ blanked (suc i) l
-    by i [] h = absurd (not-suc-le-zero h)
-    by zero (x ∷ l) h = refl
-    by (suc i) (x ∷ l) h = ap {B = List ℕ} (λ r. 0 ∷ r) (by i l (le_of_suc-le-suc h))
-
--- the loop: one turn, and its end
-pub again : (i : ℕ) (l t : List ℕ) → i < length l → t ≡ blanked i l → set t i 0 ≡ blanked (i + 1) l
-again i l t h e = ap (λ (r : List ℕ). set r i 0) e ∙ one_more i l h
-
-pub at_end : (i n : ℕ) (l t : List ℕ) → i ≤ n → n ≤ i → t ≡ blanked i l → t ≡ blanked n l
-at_end i n l t a b e = let q : i ≡ n = omega arith in e ∙ ap (λ (k : ℕ). blanked k l) q
 
 -- cells that are all 0
 module _ (sizes : List ℕ) (M : List Table) (hold : (l : List ℕ) → sum sizes ≤ length l → ((i : ℕ) → i < sum sizes → get_or l i 0 ≡ 0) → Holds sizes l M) where

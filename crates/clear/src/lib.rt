@@ -7,15 +7,12 @@ ghost use Rattle.layout.specs.Layout.{render_work};
 ghost use Rattle.clear.specs.Cleared.{blanked, Long, Cleared};
 
 // The first n cells become 0. The others are left alone.
+#[tactic(auto, unfolding(crate::specs::Cleared::blanked))]
 fn blank(t: &mut [u32], n: usize)
     requires { n ≤ length t.old }
     ensures { t.new ≡ blanked n t.old }
 {
-    let mut i: usize = 0;
-    while i < n {
-        t[i] = 0;
-        i += 1;
-    }
+    t[..n].fill(0);
 }
 
 // The needed cells of the graph and the form show the empty session; the cells past the need keep what they held.

@@ -1,20 +1,23 @@
--- What a check says decides the reply to the call that was checked.
+-- What a check says decides the reply to the call that was checked; and a test's byte is the definition's.
 -- Assumes nothing.
 use Prim.Native.Nat.{ℕ}
-use mathlib.Core.Path.{◌≡◌, sym, ap, ◌∙◌, subst}
+use mathlib.Core.Path.{◌≡◌, refl}
+use mathlib.Core.Bool.{Bool, true, false}
 use mathlib.Core.List.{List}
-use native.Mathlib.Omega.{arith}
-use Rattle.definition.specs.Form.{Graph, Form}
-use Rattle.definition.specs.Session.{Reply as Defined}
-use Rattle.reply.specs.declared.Reply.{Reply}
-use Rattle.reply.specs.Replies.{Replies}
-use Rattle.connect.specs.declared.Check.{Check}
-use Rattle.connect.specs.Checks.{checked}
+use mir.Val.{bool_byte}
+use Rattle.std.specs.Prelude.{Result, IsErrAnd}
+use Rattle.definition.specs.Session.{State, Reply, no, bit}
+use Rattle.layout.specs.declared.Counts.{Counts}
+use Rattle.reply.specs.declared.Accepted.{Accepted}
+use Rattle.reply.specs.declared.Refusal.{Refusal}
+use Rattle.reply.specs.Replies.{Replies, Showing, refusal_code, reply_of}
+use Rattle.reply.proofs.Answered.{turned_down}
 
-pub not_passed : {k : ℕ} → Check.Refused k ≡ Check.Passed → ⊥
-not_passed e = let z : ◌≡◌ {A = ℕ} 0 1 = cc in omega arith
+-- where the check refuses, so does the call, whatever d it would come to
+pub refused_by : {gl fl : List ℕ} {c : Counts} {t : State} (h : Showing gl fl c t) (r : Result Accepted Refusal) (e : Refusal)
+    → IsErrAnd r (λ (k : Refusal). k ≡ e) → {d : Reply} → no (refusal_code e) ≡ d → Replies gl fl (reply_of c r) t.graph t.form d
+refused_by h r e p q = rw (← q) (turned_down h r e p)
 
--- f is what the definition makes of the reply d where the call is checked first
-pub by_check : {gl fl : List ℕ} {r : Reply} {g : Graph} {s : Form} {f : Defined → Defined} {a q : Check} → a ≡ q → ((d : Defined) → checked a d ≡ f d)
-    → (d : Defined) → Replies gl fl r g s (checked q d) → Replies gl fl r g s (f d)
-by_check {gl} {fl} {r} {g} {s} e C d = subst (λ (k : Defined). Replies gl fl r g s k) (sym (ap (λ (a : Check). checked a d) e) ∙ C d)
+pub byte_is : (b : Bool) → bool_byte b ≡ bit b
+byte_is true = refl
+byte_is false = refl

@@ -1,7 +1,7 @@
 // The kinds of call that connect blocks, or ask about that: destinations, predecessors. The checks of docs/RULES.md in its order, then the change.
 #![tactic(auto)]
 
-ghost use Rattle.std.specs.Prelude.{◌≡◌, List, ℕ, ◌<◌};
+ghost use Rattle.std.specs.Prelude.{◌≡◌, ◌<◌, List, ℕ, IfOk};
 ghost use Rattle.entity.specs.Limits.{limits};
 ghost use Rattle.definition.specs.Form.{Graph, Form};
 ghost use Rattle.definition.specs.Session.{Reply as Defined, new_dest, add_pred, drop_pred, any_preds, is_sealed};
@@ -11,116 +11,86 @@ ghost use Rattle.connect.specs.Checks.{checked, pred_checked};
 
 use entity::{Block, Branch};
 use layout::Counts;
-use reply::Reply;
-
-// What checks say of a call: it may go on, or it is refused with a code.
-#[derive(Clone, Copy)]
-pub enum Check {
-    Passed,
-    Refused(u32),
-}
+use reply::{Accepted, Refusal};
 
 // Kind 8. A branch that is declared somewhere keeps its destinations: its arguments stand at their places.
-pub fn new_dest(graph: &mut [u32], c: Counts, x: u32, y: u32) -> Reply
+pub fn new_dest(graph: &mut [u32], c: Counts, x: u32, y: u32) -> Result<Accepted, Refusal>
     requires { (form : List ℕ) × SomeState graph.old form c }
     ensures { (form : List ℕ) → Answers graph.old form graph.new form c result (λ g s. new_dest g s x y) }
 {
-    if reply::no_branch(graph, x) {
-        return reply::refuse(reply::ABSENT, c);
-    }
-    if reply::no_block(graph, y) {
-        return reply::refuse(reply::ABSENT, c);
-    }
-    let declared = graph::is_declared(graph, Branch(x));
-    let n = graph::dest_count(graph, Branch(x));
+    let branch = reply::known_branch(graph, x)?;
+    let block = reply::known_block(graph, y)?;
+    let declared = graph::is_declared(graph, branch);
+    let n = graph::dest_count(graph, branch);
     if declared {
-        return reply::refuse(reply::DECLARED, c);
+        return Err(Refusal::Declared);
     }
     if entity::DESTS <= n {
-        return reply::refuse(reply::DESTS_FULL, c);
+        return Err(Refusal::DestsFull);
     }
-    graph::declare_dest(graph, Branch(x), Block(y));
+    graph::declare_dest(graph, branch, block);
     reply::accept(n, c)
 }
 
 // What declaring a predecessor and removing it ask first: the block and the branch are there, and the block is not sealed.
-fn check_pred(graph: &[u32], x: u32, y: u32) -> Check
+fn check_pred(graph: &[u32], x: u32, y: u32) -> Result<(Block, Branch), Refusal>
     requires { GraphWith (Seen graph.now) }
-    ensures x_lt_blocks { result ≡ Check.Passed → (x < limits.blocks) × (y < limits.blocks) }
+    ensures block { IfOk result (λ p. (p.0.0 ≡ x) × (p.0.0 < limits.blocks)) }
+    ensures branch { IfOk result (λ p. (p.1.0 ≡ y) × (p.1.0 < limits.blocks)) }
     ensures d_value { (g : Graph) → (s : Form) → Seen graph.now g → (d : Defined) → checked result d ≡ pred_checked g s x y d }
 {
-    if reply::no_block(graph, x) {
-        return Check::Refused(reply::ABSENT);
+    let block = reply::known_block(graph, x)?;
+    let branch = reply::known_branch(graph, y)?;
+    if graph::is_sealed(graph, block) {
+        return Err(Refusal::Sealed);
     }
-    if reply::no_branch(graph, y) {
-        return Check::Refused(reply::ABSENT);
-    }
-    if graph::is_sealed(graph, Block(x)) {
-        return Check::Refused(reply::SEALED);
-    }
-    Check::Passed
+    Ok((block, branch))
 }
 
 // Kind 9. A branch that names a block several times is one predecessor of it, so it is declared there once.
-pub fn add_pred(graph: &mut [u32], c: Counts, x: u32, y: u32) -> Reply
+pub fn add_pred(graph: &mut [u32], c: Counts, x: u32, y: u32) -> Result<Accepted, Refusal>
     requires { (form : List ℕ) × SomeState graph.old form c }
     ensures { (form : List ℕ) → Answers graph.old form graph.new form c result (λ g s. add_pred g s x y) }
 {
-    let check = check_pred(graph, x, y);
-    if let Check::Refused(code) = check {
-        return reply::refuse(code, c);
+    let (block, branch) = check_pred(graph, x, y)?;
+    if !graph::names(graph, branch, block) {
+        return Err(Refusal::Unrelated);
     }
-    if !graph::names(graph, Branch(y), Block(x)) {
-        return reply::refuse(reply::UNRELATED, c);
+    if graph::is_predecessor(graph, block, branch) {
+        return Err(Refusal::DeclaredHere);
     }
-    if graph::is_predecessor(graph, Block(x), Branch(y)) {
-        return reply::refuse(reply::DECLARED_HERE, c);
-    }
-    let n = graph::predecessor_count(graph, Block(x));
-    graph::declare_block_predecessor(graph, Block(x), Branch(y));
+    let n = graph::predecessor_count(graph, block);
+    graph::declare_block_predecessor(graph, block, branch);
     reply::accept(n + 1, c)
 }
 
 // Kind 10. The answer is the place that the last predecessor takes over.
-pub fn drop_pred(graph: &mut [u32], c: Counts, x: u32, y: u32) -> Reply
+pub fn drop_pred(graph: &mut [u32], c: Counts, x: u32, y: u32) -> Result<Accepted, Refusal>
     requires { (form : List ℕ) × SomeState graph.old form c }
     ensures { (form : List ℕ) → Answers graph.old form graph.new form c result (λ g s. drop_pred g s x y) }
 {
-    let check = check_pred(graph, x, y);
-    if let Check::Refused(code) = check {
-        return reply::refuse(code, c);
+    let (block, branch) = check_pred(graph, x, y)?;
+    if !graph::is_predecessor(graph, block, branch) {
+        return Err(Refusal::Unrelated);
     }
-    if !graph::is_predecessor(graph, Block(x), Branch(y)) {
-        return reply::refuse(reply::UNRELATED, c);
-    }
-    let place = graph::remove_block_predecessor(graph, Block(x), Branch(y));
+    let place = graph::remove_block_predecessor(graph, block, branch);
     reply::accept(place, c)
 }
 
 // Kind 13. An unknown block is refused, where the original says no.
-pub fn has_any_predecessors(graph: &[u32], c: Counts, x: u32) -> Reply
+pub fn has_any_predecessors(graph: &[u32], c: Counts, x: u32) -> Result<Accepted, Refusal>
     requires { (form : List ℕ) × SomeState graph.now form c }
     ensures { (form : List ℕ) → Answers graph.now form graph.now form c result (λ g s. any_preds g s x) }
 {
-    if reply::no_block(graph, x) {
-        return reply::refuse(reply::ABSENT, c);
-    }
-    if graph::predecessor_count(graph, Block(x)) == 0 {
-        return reply::accept(0, c);
-    }
-    reply::accept(1, c)
+    let block = reply::known_block(graph, x)?;
+    reply::accept(u32::from(graph::predecessor_count(graph, block) != 0), c)
 }
 
 // Kind 14. An unknown block is refused, where the original says no.
-pub fn is_sealed(graph: &[u32], c: Counts, x: u32) -> Reply
+pub fn is_sealed(graph: &[u32], c: Counts, x: u32) -> Result<Accepted, Refusal>
     requires { (form : List ℕ) × SomeState graph.now form c }
     ensures { (form : List ℕ) → Answers graph.now form graph.now form c result (λ g s. is_sealed g s x) }
 {
-    if reply::no_block(graph, x) {
-        return reply::refuse(reply::ABSENT, c);
-    }
-    if graph::is_sealed(graph, Block(x)) {
-        return reply::accept(1, c);
-    }
-    reply::accept(0, c)
+    let block = reply::known_block(graph, x)?;
+    reply::accept(u32::from(graph::is_sealed(graph, block)), c)
 }

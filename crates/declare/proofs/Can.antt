@@ -75,7 +75,8 @@ module _ {gl fl : List ℕ} {c : Counts} {t : State} (h : Showing gl fl c t) whe
     can_count = record { cells = cells h; room = room }
 
     -- after it is counted and its block placed, a made value is as new as before
-    pub can_make : {lent : List ℕ} (b : ℕ) → Cells lent (place_block b (with_makes t.form (suc t.form.makes))) → CanMake lent c (place_block b (with_makes t.form (suc t.form.makes)))
+    pub can_make : {lent : List ℕ} (b : ℕ) → Cells lent (place_block b (with_makes t.form (suc t.form.makes))) → CanMake lent c
+        (place_block b (with_makes t.form (suc t.form.makes)))
     can_make b shown = record {
       shows = record { cells = shown; next = h.leaves.form.next };
       room = make_room t h.sure room;

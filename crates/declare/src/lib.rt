@@ -12,21 +12,26 @@ ghost use Rattle.graph.specs.Seen.{GraphWith, Seen};
 ghost use Rattle.form.specs.Can.{Ex, HasPending};
 ghost use Rattle.reply.specs.Replies.{SomeState, Answers};
 
-use entity::{Block, Branch, OptionValue, Type, Value, Variable};
+use entity::{Block, Branch, Sort, Value, Variable};
 use layout::Counts;
-use reply::Reply;
+use reply::{Accepted, Refusal};
 
 // Kind 1. Block 0 is the entry, so it is placed at once; a block that is there stays as it is.
-pub fn declare_block(graph: &mut [u32], form: &mut [u32], c: Counts, x: u32) -> Reply
+pub fn declare_block(
+    graph: &mut [u32],
+    form: &mut [u32],
+    c: Counts,
+    x: u32,
+) -> Result<Accepted, Refusal>
     requires { SomeState graph.old form.old c }
     ensures { Answers graph.old form.old graph.new form.new c result (λ g s. declare_block g s x) }
 {
     if entity::BLOCKS <= x {
-        return reply::refuse(reply::FULL, c);
+        return Err(Refusal::Full);
     }
     let known = graph::block_count(graph);
     if known < x {
-        return reply::refuse(reply::SKIPS, c);
+        return Err(Refusal::Skips);
     }
     if x < known {
         return reply::accept(x, c);
@@ -40,75 +45,76 @@ pub fn declare_block(graph: &mut [u32], form: &mut [u32], c: Counts, x: u32) -> 
 }
 
 // Kind 2. A variable that is there may be declared again with its own type.
-pub fn declare_var(graph: &mut [u32], c: Counts, x: u32, y: u32) -> Reply
+pub fn declare_var(graph: &mut [u32], c: Counts, x: u32, y: u32) -> Result<Accepted, Refusal>
     requires { (form : List ℕ) × SomeState graph.old form c }
     ensures { (form : List ℕ) → Answers graph.old form graph.new form c result (λ g s. declare_var g s x y) }
 {
     if entity::VARIABLES <= x {
-        return reply::refuse(reply::FULL, c);
+        return Err(Refusal::Full);
     }
     let n = graph::variable_count(graph);
     if n < x {
-        return reply::refuse(reply::SKIPS, c);
+        return Err(Refusal::Skips);
     }
-    if Type::COUNT <= y {
-        return reply::refuse(reply::ABSENT, c);
-    }
+    let ty = reply::known_type(y)?;
     if x < n {
-        if graph::variable_type(graph, Variable(x)) != y {
-            return reply::refuse(reply::OTHER_TYPE, c);
+        if graph::variable_type(graph, Variable(x)) != ty.0 {
+            return Err(Refusal::OtherType);
         }
         return reply::accept(x, c);
     }
-    graph::declare_variable(graph, y);
+    graph::declare_variable(graph, ty.0);
     reply::accept(x, c)
 }
 
 // Kind 3. A block's first value places it; after its branch a block takes no more.
-pub fn make_value(graph: &[u32], form: &mut [u32], c: Counts, x: u32, y: u32) -> Reply
+pub fn make_value(
+    graph: &[u32],
+    form: &mut [u32],
+    c: Counts,
+    x: u32,
+    y: u32,
+) -> Result<Accepted, Refusal>
     requires { SomeState graph.now form.old c }
     ensures { Answers graph.now form.old graph.now form.new c result (λ g s. make_value g s x y) }
 {
-    if reply::no_block(graph, x) {
-        return reply::refuse(reply::ABSENT, c);
-    }
-    if Type::COUNT <= y {
-        return reply::refuse(reply::ABSENT, c);
-    }
-    if graph::has_branch(graph, Block(x)) {
-        return reply::refuse(reply::BRANCHED, c);
+    let block = reply::known_block(graph, x)?;
+    let ty = reply::known_type(y)?;
+    if graph::has_branch(graph, block) {
+        return Err(Refusal::Branched);
     }
     if entity::MADE <= form::made_count(form) {
-        return reply::refuse(reply::FULL, c);
+        return Err(Refusal::Full);
     }
     form::count_made(form);
-    form::place_block(form, Block(x));
-    let d = form::make(form, c, form::MADE, y, Block(x));
+    form::place_block(form, block);
+    let d = form::make(form, c, Sort::Made, ty.0, block);
     reply::accept(c.values, d)
 }
 
 // Kind 4. The value is stored as it is, an alias too. Uses beyond a branch that was declared have read the block's definitions, so it takes no more.
-pub fn define(graph: &[u32], form: &mut [u32], c: Counts, x: u32, y: u32, z: u32) -> Reply
+pub fn define(
+    graph: &[u32],
+    form: &mut [u32],
+    c: Counts,
+    x: u32,
+    y: u32,
+    z: u32,
+) -> Result<Accepted, Refusal>
     requires { SomeState graph.now form.old c }
     ensures { Answers graph.now form.old graph.now form.new c result (λ g s. define g s x y z) }
 {
-    if reply::no_var(graph, x) {
-        return reply::refuse(reply::ABSENT, c);
+    let var = reply::known_var(graph, x)?;
+    let val = reply::known_value(c, y)?;
+    let block = reply::known_block(graph, z)?;
+    if form::value_type(form, val) != graph::variable_type(graph, var) {
+        return Err(Refusal::OtherType);
     }
-    if c.values <= y {
-        return reply::refuse(reply::ABSENT, c);
+    if graph::ever_declared(graph, Branch::from(block)) {
+        return Err(Refusal::Late);
     }
-    if reply::no_block(graph, z) {
-        return reply::refuse(reply::ABSENT, c);
-    }
-    if form::value_type(form, Value(y)) != graph::variable_type(graph, Variable(x)) {
-        return reply::refuse(reply::OTHER_TYPE, c);
-    }
-    if graph::ever_declared(graph, Branch(z)) {
-        return reply::refuse(reply::LATE, c);
-    }
-    form::record_def(form, Variable(x), Block(z), Value(y));
-    form::record_stack_map_binding(form, graph::is_marked(graph, Variable(x)), Value(y));
+    form::record_def(form, var, block, val);
+    form::record_stack_map_binding(form, graph::is_marked(graph, var), val);
     reply::accept(y, c)
 }
 
@@ -119,31 +125,32 @@ pub fn define_answer(
     c: Counts,
     x: u32,
     z: u32,
-    w: OptionValue,
-) -> Reply
+    w: Option<Value>,
+) -> Result<Accepted, Refusal>
     requires { SomeState graph.now form.old c }
     ensures { Answers graph.now form.old graph.now form.new c result
         (λ g s. define_answer g s x z (value_of w)) }
 {
-    let OptionValue::Some(val) = w else {
-        return reply::refuse(reply::ABSENT, c);
-    };
+    let val = w.ok_or(Refusal::Absent)?;
     define(graph, form, c, x, val.0, z)
 }
 
 // Kind 7. A branch places its block, which may have no value.
-pub fn new_branch(graph: &mut [u32], form: &mut [u32], c: Counts, x: u32) -> Reply
+pub fn new_branch(
+    graph: &mut [u32],
+    form: &mut [u32],
+    c: Counts,
+    x: u32,
+) -> Result<Accepted, Refusal>
     requires { SomeState graph.old form.old c }
     ensures { Answers graph.old form.old graph.new form.new c result (λ g s. new_branch g s x) }
 {
-    if reply::no_block(graph, x) {
-        return reply::refuse(reply::ABSENT, c);
+    let block = reply::known_block(graph, x)?;
+    if graph::has_branch(graph, block) {
+        return Err(Refusal::Branched);
     }
-    if graph::has_branch(graph, Block(x)) {
-        return reply::refuse(reply::BRANCHED, c);
-    }
-    graph::declare_branch(graph, Block(x));
-    form::place_block(form, Block(x));
+    graph::declare_branch(graph, block);
+    form::place_block(form, block);
     reply::accept(x, c)
 }
 
@@ -155,84 +162,88 @@ fn is_begun(graph: &[u32], form: &[u32], block: Block) -> bool
     ensures { (g : Graph) → (s : Form) → Seen graph.now g → HasPending form.now block.0 s
         → result ≡ (g.sealed block.0 || not (length (g.preds block.0) =? 0) || not (length (s.pending block.0) =? 0)) }
 {
-    if graph::is_sealed(graph, block) {
-        return true;
-    }
-    if graph::predecessor_count(graph, block) != 0 {
-        return true;
-    }
-    form::pending_count(form, block) != 0
+    graph::is_sealed(graph, block)
+        || graph::predecessor_count(graph, block) != 0
+        || form::pending_count(form, block) != 0
 }
 
 // Kind 15. A caller's parameters stand before the builder's. Such a parameter counts as a made value, but it does not place its block.
-pub fn own_param(graph: &[u32], form: &mut [u32], c: Counts, x: u32, y: u32) -> Reply
+pub fn own_param(
+    graph: &[u32],
+    form: &mut [u32],
+    c: Counts,
+    x: u32,
+    y: u32,
+) -> Result<Accepted, Refusal>
     requires { SomeState graph.now form.old c }
     ensures { Answers graph.now form.old graph.now form.new c result (λ g s. own_param g s x y) }
 {
-    if reply::no_block(graph, x) {
-        return reply::refuse(reply::ABSENT, c);
+    let block = reply::known_block(graph, x)?;
+    let ty = reply::known_type(y)?;
+    if is_begun(graph, form, block) {
+        return Err(Refusal::Begun);
     }
-    if Type::COUNT <= y {
-        return reply::refuse(reply::ABSENT, c);
-    }
-    if is_begun(graph, form, Block(x)) {
-        return reply::refuse(reply::BEGUN, c);
-    }
-    if entity::OWN_PARAMS <= form::own_count(form, Block(x)) {
-        return reply::refuse(reply::OWN_FULL, c);
+    if entity::OWN_PARAMS <= form::own_count(form, block) {
+        return Err(Refusal::OwnFull);
     }
     if entity::MADE <= form::made_count(form) {
-        return reply::refuse(reply::FULL, c);
+        return Err(Refusal::Full);
     }
     form::count_made(form);
-    let d = form::append_block_param(form, c, Block(x), form::CALLER, y);
-    form::count_own(form, Block(x));
+    let d = form::append_block_param(form, c, block, Sort::Caller, ty.0);
+    form::count_own(form, block);
     reply::accept(c.values, d)
 }
 
 // Kind 16. The caller's arguments feed the caller's parameters of the destination in order, and stand before the builder's: these come once the branch is
 // declared. The value is stored as it is.
-pub fn give_arg(graph: &[u32], form: &mut [u32], c: Counts, x: u32, y: u32, z: u32) -> Reply
+pub fn give_arg(
+    graph: &[u32],
+    form: &mut [u32],
+    c: Counts,
+    x: u32,
+    y: u32,
+    z: u32,
+) -> Result<Accepted, Refusal>
     requires { SomeState graph.now form.old c }
     ensures { Answers graph.now form.old graph.now form.new c result (λ g s. give_arg g s x y z) }
 {
-    if reply::no_branch(graph, x) {
-        return reply::refuse(reply::ABSENT, c);
+    let branch = reply::known_branch(graph, x)?;
+    let val = reply::known_value(c, y)?;
+    if graph::dest_count(graph, branch) <= z {
+        return Err(Refusal::Absent);
     }
-    if c.values <= y {
-        return reply::refuse(reply::ABSENT, c);
+    if graph::is_declared(graph, branch) {
+        return Err(Refusal::Declared);
     }
-    if graph::dest_count(graph, Branch(x)) <= z {
-        return reply::refuse(reply::ABSENT, c);
-    }
-    if graph::is_declared(graph, Branch(x)) {
-        return reply::refuse(reply::DECLARED, c);
-    }
-    let dest = graph::dest(graph, Branch(x), z);
-    let n = form::argument_count(form, Branch(x), z);
+    let dest = graph::dest(graph, branch, z);
+    let n = form::argument_count(form, branch, z);
     if form::own_count(form, dest) <= n {
-        return reply::refuse(reply::OWN_FULL, c);
+        return Err(Refusal::OwnFull);
     }
     let param = form::block_param(form, dest, n);
-    if form::value_type(form, Value(y)) != form::value_type(form, param) {
-        return reply::refuse(reply::OTHER_TYPE, c);
+    if form::value_type(form, val) != form::value_type(form, param) {
+        return Err(Refusal::OtherType);
     }
-    form::append_argument(form, Branch(x), z, Value(y));
+    form::append_argument(form, branch, z, val);
     reply::accept(n, c)
 }
 
 // Kind 17. Stack maps must have what the variable receives. It is marked before it has any definition, so that none is missed.
-pub fn mark_var_needs_stack_map(graph: &mut [u32], form: &[u32], c: Counts, x: u32) -> Reply
+pub fn mark_var_needs_stack_map(
+    graph: &mut [u32],
+    form: &[u32],
+    c: Counts,
+    x: u32,
+) -> Result<Accepted, Refusal>
     requires { SomeState graph.old form.now c }
     ensures { Answers graph.old form.now graph.new form.now c result (λ g s. mark_var g s x) }
 {
-    if reply::no_var(graph, x) {
-        return reply::refuse(reply::ABSENT, c);
-    }
+    let var = reply::known_var(graph, x)?;
     let n = graph::block_count(graph);
-    if form::is_defined(form, Variable(x), n) {
-        return reply::refuse(reply::DEFINED, c);
+    if form::is_defined(form, var, n) {
+        return Err(Refusal::Defined);
     }
-    graph::mark_variable(graph, Variable(x));
+    graph::mark_variable(graph, var);
     reply::accept(x, c)
 }

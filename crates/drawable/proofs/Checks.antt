@@ -1,14 +1,15 @@
 -- The tests of the tables. A loop over a list tests what is left of it; together they decide `Drawable`.
 -- Assumes nothing.
 use Prim.Native.Nat.{ℕ, suc, ◌+◌, ◌-◌, ◌<◌, ◌≤◌}
-use mathlib.Core.Path.{◌≡◌, sym, ap, ◌∙◌}
+use mathlib.Core.Path.{◌≡◌, refl, sym, ap, ◌∙◌}
 use mathlib.Core.Bool.{Bool, true, false, not, ◌&&◌, ◌||◌}
-use mathlib.Core.List.{List, ◌∷◌}
+use mathlib.Core.List.{List, [], ◌∷◌}
 use native.Mathlib.Numerals.{add-one}
 use native.Mathlib.Omega.{arith}
 use borrow.Author.Tests.{ltb-true, leb-true, lt-ltb, le-leb, lt-leb}
 use lib.ListN.{length, get_or, drop, drop_of_length-le}
 use lib.Seq.{drop-cons}
+use Rattle.std.specs.List.{list_all}
 use Rattle.entity.specs.Limits.{limits, value_room, param_room}
 use Rattle.definition.specs.Base.{◌<?◌, ◌≤?◌, every, up_from}
 use Rattle.meaning.proofs.Decide.{Decides, turned, both, implied, each}
@@ -19,9 +20,13 @@ use Rattle.layout.specs.Rows.{entries}
 use Rattle.drawable.specs.Fits.{params_at, dests_at, row_fits, blocks, values, branches, args_fit, branch_fits, block_fits, drawable}
 use Rattle.drawable.specs.Drawable.{RowFits, BranchFits, Drawable}
 
--- ---- what is left of a list
+-- ---- all of a list, and what is left of it
 
 module _ (f : ℕ → Bool) where
+  pub every_of : (xs : List ℕ) → list_all f xs ≡ every f xs
+  every_of [] = refl
+  every_of (x ∷ xs) = ap (λ (z : Bool). f x && z) (every_of xs)
+
   -- its first entry passes, so the others decide; or it fails
   passed : {x : ℕ} {xs ys : List ℕ} → ys ≡ x ∷ xs → f x ≡ true → every f xs ≡ every f ys
   passed {x} {xs} e p = sym (ap (every f) e ∙ ap (λ (z : Bool). z && every f xs) p)

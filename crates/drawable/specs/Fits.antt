@@ -4,8 +4,9 @@ use Rattle.std.specs.Prelude.{ℕ, ◌+◌, ◌*◌, Bool, not, ◌&&◌, ◌||�
 use Rattle.entity.specs.Limits.{limits, value_room, param_room}
 use Rattle.definition.specs.Base.{◌=?◌, ◌<?◌, ◌≤?◌, every, up_from}
 use Rattle.layout.specs.Cells.{base}
-use Rattle.layout.specs.Layout.{dest_row, param_row, graph_sizes, form_sizes}
+use Rattle.layout.specs.Layout.{graph_sizes, form_sizes}
 use Rattle.layout.specs.Rows.{entries}
+pub use Rattle.layout.specs.Starts.{params_at, dests_at, args_at}
 
 -- which tables are drawn: of the graph's the branch marks and the destinations, of the form's the parameters and the arguments
 abbrev pub mark_table : ℕ
@@ -19,16 +20,6 @@ param_table = 7
 
 abbrev pub arg_table : ℕ
 arg_table = 11
-
--- the cells of the counts of block b's parameters, of its branch's destinations, and of its branch's arguments at destination i
-abbrev pub params_at : ℕ → ℕ
-params_at b = base form_sizes param_table + b * param_row
-
-abbrev pub dests_at : ℕ → ℕ
-dests_at b = base graph_sizes dest_table + b * dest_row
-
-abbrev pub args_at : ℕ → ℕ → ℕ
-args_at b i = base form_sizes arg_table + (b * limits.dests + i) * param_row
 
 -- the row at a has no more entries than the room, and each is below n
 unfoldable pub row_fits : ℕ → ℕ → List ℕ → ℕ → Bool

@@ -2,14 +2,23 @@
 #![tactic(auto)]
 
 ghost use Rattle.std.specs.Prelude.{◌≡◌, ◌+◌, ◌<◌, ◌≤◌, length};
-ghost use Rattle.entity.specs.Limits.{limits, zero_room, form_need};
+ghost use Rattle.entity.specs.Limits.{limits, zero_room};
 ghost use Rattle.definition.specs.Base.{◌<?◌, every, up_from};
 ghost use Rattle.drawable.specs.Fits.{row_fits, args_fit, branch_fits, block_fits, drawable};
 ghost use Rattle.drawable.specs.Drawable.{Long};
 
 use entity::{Block, Branch};
+use layout::{args_at, dests_at, params_at};
 
 pub mod cells;
+
+// The tables that are drawn, each as long as it needs to be.
+#[derive(Clone, Copy)]
+pub struct Tables<'a> {
+    pub graph: &'a [u32],
+    pub form: &'a [u32],
+    ghost long: { Long graph.now form.now },
+}
 
 const PARAM_ROOM: u32 = entity::PARAM_ROOM as u32;
 
@@ -17,14 +26,7 @@ const PARAM_ROOM: u32 = entity::PARAM_ROOM as u32;
 fn below(xs: &[u32], n: u32) -> bool
     ensures { result ≡ every (λ x. x <? n) xs.now }
 {
-    let mut i = 0;
-    while i < xs.len() {
-        if n <= xs[i] {
-            return false;
-        }
-        i += 1;
-    }
-    true
+    xs.iter().all(|x| *x < n)
 }
 
 // Has the row at most as many entries as its room, each below n?
@@ -38,67 +40,67 @@ fn row_fits(room: u32, n: u32, row: &[u32], at: usize) -> bool
     below(cells::entries(row, at), n)
 }
 
-// Do the arguments of the branch's destinations, so many, fit?
-fn args_fit(form: &[u32], branch: Branch, count: u32) -> bool
-    requires { (count ≤ limits.dests) × (branch.0 < limits.blocks) × (form_need limits ≤ length form.now) }
-    ensures { result ≡ every (args_fit form.now branch.0) (up_from 0 count) }
-{
-    let values = form[layout::VALUE_COUNT];
-    let mut i: u32 = 0;
-    while i < count {
-        if !row_fits(PARAM_ROOM, values, form, cells::args_at(branch, i)) {
+impl Tables<'_> {
+    // Do the arguments of the branch's destinations, so many, fit?
+    fn args_fit(&self, branch: Branch, count: u32) -> bool
+        requires { (count ≤ limits.dests) × (branch.0 < limits.blocks) }
+        ensures { result ≡ every (args_fit self.now.form.now branch.0) (up_from 0 count) }
+    {
+        let values = self.form[layout::VALUE_COUNT];
+        for i in 0..count {
+            if !row_fits(PARAM_ROOM, values, self.form, args_at(branch, i)) {
+                return false;
+            }
+        }
+        true
+    }
+
+    fn branch_fits(&self, branch: Branch) -> bool
+        requires { branch.0 < limits.blocks }
+        ensures { result ≡ branch_fits self.now.graph.now self.now.form.now branch.0 }
+    {
+        let at = dests_at(branch);
+        if !row_fits(
+            entity::DESTS,
+            self.graph[layout::BLOCK_COUNT],
+            self.graph,
+            at,
+        ) {
             return false;
         }
-        i += 1;
+        self.args_fit(branch, self.graph[at])
     }
-    true
-}
 
-fn branch_fits(graph: &[u32], form: &[u32], branch: Branch) -> bool
-    requires long { Long graph.now form.now }
-    requires branch_lt_blocks { branch.0 < limits.blocks }
-    ensures { result ≡ branch_fits graph.now form.now branch.0 }
-{
-    let at = cells::dests_at(branch);
-    if !row_fits(entity::DESTS, graph[layout::BLOCK_COUNT], graph, at) {
-        return false;
-    }
-    args_fit(form, branch, graph[at])
-}
-
-fn block_fits(graph: &[u32], form: &[u32], block: Block) -> bool
-    requires long { Long graph.now form.now }
-    requires block_lt_blocks { block.0 < limits.blocks }
-    ensures { result ≡ block_fits graph.now form.now block.0 }
-{
-    let values = form[layout::VALUE_COUNT];
-    let b = block.0 as usize;
-    if !row_fits(PARAM_ROOM, values, form, cells::params_at(block)) {
-        return false;
-    }
-    if graph[layout::BRANCHES + b] == 0 {
-        return true;
-    }
-    branch_fits(graph, form, Branch(block.0))
-}
-
-pub fn drawable(graph: &[u32], form: &[u32]) -> bool
-    requires { Long graph.now form.now }
-    ensures { result ≡ drawable graph.now form.now }
-{
-    let blocks = graph[layout::BLOCK_COUNT];
-    if entity::BLOCKS < blocks {
-        return false;
-    }
-    if entity::VALUE_ROOM < form[layout::VALUE_COUNT] as usize {
-        return false;
-    }
-    let mut b: u32 = 0;
-    while b < blocks {
-        if !block_fits(graph, form, Block(b)) {
+    fn block_fits(&self, block: Block) -> bool
+        requires { block.0 < limits.blocks }
+        ensures { result ≡ block_fits self.now.graph.now self.now.form.now block.0 }
+    {
+        let values = self.form[layout::VALUE_COUNT];
+        let b = block.0 as usize;
+        if !row_fits(PARAM_ROOM, values, self.form, params_at(block)) {
             return false;
         }
-        b += 1;
+        if self.graph[layout::BRANCHES + b] == 0 {
+            return true;
+        }
+        self.branch_fits(Branch::from(block))
     }
-    true
+
+    pub fn drawable(&self) -> bool
+        ensures { result ≡ drawable self.now.graph.now self.now.form.now }
+    {
+        let blocks = self.graph[layout::BLOCK_COUNT];
+        if entity::BLOCKS < blocks {
+            return false;
+        }
+        if entity::VALUE_ROOM < self.form[layout::VALUE_COUNT] as usize {
+            return false;
+        }
+        for b in 0..blocks {
+            if !self.block_fits(Block(b)) {
+                return false;
+            }
+        }
+        true
+    }
 }

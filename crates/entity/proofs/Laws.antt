@@ -1,9 +1,8 @@
 -- The code's table of types is what the rules give: each of its entries is computed, and each tells the facts of the type with its number. The unset values of
 -- the floats are quiet NaNs: by computation.
 -- Assumes nothing.
-use Prim.Native.Nat.{ℕ, zero, suc, ◌+◌, ◌-◌, ◌<◌, ◌≤◌, ◌%◌, ◌/◌, ◌^◌}
+use Prim.Native.Nat.{ℕ, zero, suc, ◌+◌, ◌<◌, ◌≤◌, ◌%◌, ◌/◌, ◌^◌}
 use mathlib.Core.Path.{◌≡◌, refl, ap, ◌∙◌, subst}
-use mathlib.Core.Logic.{◌≢◌}
 use mathlib.Core.Bool.{Bool, true, false, cond}
 use mathlib.Core.Option.{Option, none, some, some-injective, none-ne-some}
 use mathlib.Core.List.{List, [], ◌∷◌}
@@ -11,32 +10,34 @@ use native.Mathlib.Omega.{arith}
 use lib.Dec.{ltb, leb, ltb→lt, nltb→le}
 use lib.ListN.{length, get_or, get_or-eq_default}
 use Rattle.entity.specs.Types.{Kind, vector, i8, f16, f32, f64, f128, types, type_count, kind_of, lane_of, lanes_of, width_of, unset_of, step_of}
-use Rattle.entity.specs.Types.{Lane, integer, float, scalar, i64, held_of, scalar_in, step_in, plus_one, Shaped, QuietNan}
+use Rattle.entity.specs.Types.{Lane, integer, float, scalar, i64, held_of, scalar_in, step_in, number_found, Shaped, QuietNan}
+use Rattle.std.specs.Prelude.{Option as OptionOf, Some, None}
+use Rattle.entity.specs.declared.«Type».{«Type» as TypeNumber}
 use Rattle.entity.specs.declared.Shape.{Shape}
 
--- a number plus one, where it is not 0, is there
-pub less_one : (o : Option ℕ) (s : ℕ) → s ≡ plus_one o → s ≢ 0 → some (s - 1) ≡ o
-less_one none s e n = absurd (n e)
-less_one (some t) s e n = let k : s - 1 ≡ t = omega arith in ap {B = Option ℕ} some k
+-- the type with this number, if there is one
+abbrev type_given : Option ℕ → OptionOf TypeNumber
+type_given none = None
+type_given (some n) = Some (record { 0 = n })
 
-pub is_none : (o : Option ℕ) (s : ℕ) → s ≡ plus_one o → s ≡ 0 → none ≡ o
-is_none none s e z = refl
-is_none (some t) s e z = absurd (omega arith)
+given_back : (o : Option ℕ) → number_found (type_given o) ≡ o
+given_back none = refl
+given_back (some n) = refl
 
 -- the entry of type n
 abbrev entry_of : ℕ → Shape
 entry_of n = record {
-  0 = n;
-  1 = lane_of n;
+  0 = record { 0 = n };
+  1 = record { 0 = lane_of n };
   2 = lanes_of n;
   3 = width_of n;
-  4 = plus_one (step_of n);
+  4 = type_given (step_of n);
   5 = unset_of n % 2 ^ 64;
   6 = unset_of n / 2 ^ 64;
 }
 
 entry_shaped : (n : ℕ) → Shaped n (entry_of n)
-entry_shaped n = record { number = refl; lane = refl; lanes = refl; width = refl; step = refl; unset = record { below = refl; above = refl } }
+entry_shaped n = record { number = refl; lane = refl; lanes = refl; width = refl; step = given_back (step_of n); unset = record { below = refl; above = refl } }
 
 -- one entry for each of these types, numbered from i on
 abbrev entries : ℕ → List Kind → List Shape
@@ -52,7 +53,7 @@ pub in_table : (d : Shape) (n : ℕ) → n < type_count → Shaped n (get_or (en
 in_table d n h = let here : 0 + n ≡ n = omega arith in rw (among d types 0 n h, here) (entry_shaped n)
 
 -- past the table nothing is known
-pub past_table : (n : ℕ) → type_count ≤ n → Shaped n (record { 0 = n; 1 = 0; 2 = 0; 3 = 0; 4 = 0; 5 = 0; 6 = 0 })
+pub past_table : (n : ℕ) → type_count ≤ n → Shaped n (record { 0 = record { 0 = n }; 1 = record { 0 = 0 }; 2 = 0; 3 = 0; 4 = None; 5 = 0; 6 = 0 })
 past_table n h =
     let k : kind_of n ≡ vector i8 0 = get_or-eq_default types (vector i8 0) h in
     record { number = refl; lane = rw k; lanes = rw k; width = rw k; step = rw k; unset = record { below = rw k; above = rw k } }

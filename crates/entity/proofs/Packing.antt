@@ -5,10 +5,10 @@ use Prim.Native.Nat.{ℕ, ◌+◌, ◌*◌, ◌/◌, ◌%◌, ◌<◌}
 use mathlib.Core.Path.{◌≡◌}
 use native.Mathlib.Omega.{arith}
 use Rattle.entity.specs.declared.Described.{Described}
-use Rattle.entity.specs.Described.{type_room, sort_room, mark_room, packed, Parts, mark_of, with_mark}
+use Rattle.entity.specs.Described.{type_room, sort_room, mark_room, number_of, packed, Parts, mark_of, with_mark}
 
 -- what `%` and `/` take from a cell are its parts
-pub parts : (cell : ℕ) (d : Described) → d.ty ≡ cell % type_room → d.sort ≡ cell / type_room % sort_room → d.block.0 ≡ cell / type_room / sort_room / mark_room
+pub parts : (cell : ℕ) (d : Described) → d.ty ≡ cell % type_room → number_of d.sort ≡ cell / type_room % sort_room → d.block.0 ≡ cell / type_room / sort_room / mark_room
     → Parts cell d
 parts cell d t s b = record {
   type = omega arith;

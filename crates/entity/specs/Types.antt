@@ -1,9 +1,9 @@
 -- The types, a line each: what a lane holds and how many there are. Width, steps of a zero and bits of the unset value follow from that by one rule each.
 -- Assumes nothing.
 use Rattle.std.specs.Prelude.{ℕ, zero, suc, ◌+◌, ◌-◌, ◌*◌, ◌/◌, ◌%◌, ◌^◌}
-use Rattle.std.specs.Prelude.{◌≡◌, cond, List, [], ◌∷◌, ltb, leb, length, get_or}
+use Rattle.std.specs.Prelude.{◌≡◌, cond, List, [], ◌∷◌, ltb, leb, length, get_or, Option as OptionOf, Some, None}
 use Rattle.std.proofs.Math.Option.{Option, none, some}
-use Rattle.entity.specs.declared.Found.{Found}
+use Rattle.entity.specs.declared.«Type».{«Type» as TypeNumber}
 use Rattle.entity.specs.declared.Shape.{Shape}
 
 -- an integer of so many bits; a float with so many bits of exponent and of fraction, below its sign
@@ -135,9 +135,9 @@ step_of n = step_in (lane_of n) (lanes_of n) (held_of n)
 
 -- ---- what the code answers
 
-abbrev pub number_found : Found → Option ℕ
-number_found (Found.Is t) = some t.0
-number_found Found.Nothing = none
+abbrev pub number_found : OptionOf TypeNumber → Option ℕ
+number_found (Some t) = some t.0
+number_found None = none
 
 abbrev pub known_number : ℕ → Option ℕ
 known_number n = cond (ltb n type_count) (some n) none
@@ -153,11 +153,11 @@ pub record Unset (n low high : ℕ) : Type 0 where
 
 -- all that there is to know of type n
 pub record Shaped (n : ℕ) (r : Shape) : Type 0 where
-  pub number : r.0 ≡ n
-  pub lane : r.1 ≡ lane_of n
+  pub number : r.0.0 ≡ n
+  pub lane : r.1.0 ≡ lane_of n
   pub lanes : r.2 ≡ lanes_of n
   pub width : r.3 ≡ width_of n
-  pub step : r.4 ≡ plus_one (step_of n)
+  pub step : number_found r.4 ≡ step_of n
   pub unset : Unset n r.5 r.6
 
 -- The quiet NaN of a float that has e bits of exponent above f bits of fraction, bit by bit.

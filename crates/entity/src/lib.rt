@@ -1,53 +1,50 @@
 // The numbers that stand for blocks, variables, values and branches; the types; what a value is, in one cell; the limits, and the rooms that follow from them.
 #![tactic(auto)]
 
-ghost use Rattle.std.specs.Prelude.{◌≡◌, eqb, ltb};
-ghost use Rattle.entity.specs.Described.{Fits, Parts, packed, mark_of, with_mark};
+ghost use Rattle.std.specs.Prelude.{◌≡◌, ◌<◌, eqb, ltb};
+ghost use Rattle.entity.specs.Described.{Fits, Parts, number_of, sort_room, packed, mark_of, with_mark};
 ghost use Rattle.entity.specs.Host.{InForce, Needed};
 ghost use Rattle.entity.specs.Types.{Shaped, Unset, known_number, lane_of, lanes_of, number_found, plus_one, step_of, type_count, width_of};
 
-// Four kinds of number, each a type of its own, so that one can't be taken for another.
-#[derive(Clone, Copy)]
+// Four kinds of number, each a type of its own, so that one can't be taken for another. Where one may be missing, `Option` stands for the original's
+// `PackedOption`; a cell has the number plus one, 0 for none.
+#[derive(Clone, Copy, Debug, PartialEq, Eq)]
 pub struct Block(pub u32);
 
-#[derive(Clone, Copy)]
+#[derive(Clone, Copy, Debug, PartialEq, Eq)]
 pub struct Variable(pub u32);
 
-#[derive(Clone, Copy)]
+#[derive(Clone, Copy, Debug, PartialEq, Eq)]
 pub struct Value(pub u32);
 
 // A branch bears the number of its block.
-#[derive(Clone, Copy)]
+#[derive(Clone, Copy, Debug, PartialEq, Eq)]
 pub struct Branch(pub u32);
 
-// A value or a block that may be missing, where the original has a `PackedOption`. A cell has its number plus one, 0 for none.
-#[derive(Clone, Copy)]
-pub enum OptionValue {
-    Some(Value),
-    None,
+impl From<Branch> for Block {
+    ghost from_gives = { λ p b. b.0 ≡ p.0 };
+
+    fn from(branch: Branch) -> Block {
+        Block(branch.0)
+    }
 }
 
-#[derive(Clone, Copy)]
-pub enum OptionBlock {
-    Some(Block),
-    None,
+impl From<Block> for Branch {
+    ghost from_gives = { λ b p. p.0 ≡ b.0 };
+
+    fn from(block: Block) -> Branch {
+        Branch(block.0)
+    }
 }
 
-// A type is its number. A number past the table names none: it has no lane, no width and no bits.
-#[derive(Clone, Copy)]
+// A type is its number, as in the lists of calls. A number past the table names none: it has no lane, no width and no bits.
+#[derive(Clone, Copy, Debug, PartialEq, Eq)]
 pub struct Type(pub u32);
 
-// What a number names.
-#[derive(Clone, Copy)]
-pub enum Found {
-    Is(Type),
-    Nothing,
-}
-
-// What there is to know of a type: its number; the number of its lane's type (its own, unless it is a vector); how many lanes it has; its width in bytes; where
-// its zero takes two steps, the number of the first one's type plus one, else 0; the bits of its unset value, the low 64 and the high 64.
-#[derive(Clone, Copy)]
-struct Shape(u32, u32, u32, u32, u32, u64, u64);
+// What there is to know of a type: the type; its lane's type (its own, unless it is a vector); how many lanes it has; its width in bytes; where its zero takes
+// two steps, the first one's type; the bits of its unset value, the low 64 and the high 64. Without names, so that a type is a line of the table below.
+#[derive(Clone, Copy, Debug, PartialEq, Eq)]
+struct Shape(Type, Type, u32, u32, Option<Type>, u64, u64);
 
 // Quiet NaNs side by side: two of 16 bits; then 64 bits of four, of two of 32, of one of 64, and the top of one of 128.
 const D16: u64 = 0x7E00_7E00;
@@ -62,35 +59,35 @@ const Q128: u64 = 0x7FFF_8000_0000_0000;
 
 // The types, in the order of their numbers: to add one, write its line here and in specs/Types.antt, its name and the count below.
 const SHAPES: [Shape; Type::COUNT as usize] = [
-    Shape(Type::I8.0, Type::I8.0, 1, 1, 0, 0, 0),
-    Shape(Type::I16.0, Type::I16.0, 1, 2, 0, 0, 0),
-    Shape(Type::I32.0, Type::I32.0, 1, 4, 0, 0, 0),
-    Shape(Type::I64.0, Type::I64.0, 1, 8, 0, 0, 0),
-    Shape(Type::F32.0, Type::F32.0, 1, 4, 0, 0x7FC0_0000, 0),
-    Shape(Type::F64.0, Type::F64.0, 1, 8, 0, Q64, 0),
-    Shape(Type::I128.0, Type::I128.0, 1, 16, 1 + Type::I64.0, 0, 0),
-    Shape(Type::F16.0, Type::F16.0, 1, 2, 0, 0x7E00, 0),
-    Shape(Type::F128.0, Type::F128.0, 1, 16, 0, 0, Q128),
-    Shape(Type::I8X2.0, Type::I8.0, 2, 2, 0, 0, 0),
-    Shape(Type::I8X4.0, Type::I8.0, 4, 4, 0, 0, 0),
-    Shape(Type::I8X8.0, Type::I8.0, 8, 8, 0, 0, 0),
-    Shape(Type::I8X16.0, Type::I8.0, 16, 16, 0, 0, 0),
-    Shape(Type::I16X2.0, Type::I16.0, 2, 4, 0, 0, 0),
-    Shape(Type::I16X4.0, Type::I16.0, 4, 8, 0, 0, 0),
-    Shape(Type::I16X8.0, Type::I16.0, 8, 16, 0, 0, 0),
-    Shape(Type::I32X2.0, Type::I32.0, 2, 8, 0, 0, 0),
-    Shape(Type::I32X4.0, Type::I32.0, 4, 16, 0, 0, 0),
-    Shape(Type::I64X2.0, Type::I64.0, 2, 16, 0, 0, 0),
-    Shape(Type::F16X2.0, Type::F16.0, 2, 4, 1 + Type::F16.0, D16, 0),
-    Shape(Type::F16X4.0, Type::F16.0, 4, 8, 1 + Type::F16.0, Q16, 0),
-    Shape(Type::F16X8.0, Type::F16.0, 8, 16, 1 + Type::F16.0, Q16, Q16),
-    Shape(Type::F32X2.0, Type::F32.0, 2, 8, 1 + Type::F32.0, Q32, 0),
-    Shape(Type::F32X4.0, Type::F32.0, 4, 16, 1 + Type::F32.0, Q32, Q32),
-    Shape(Type::F64X2.0, Type::F64.0, 2, 16, 1 + Type::F64.0, Q64, Q64),
+    Shape(Type::I8, Type::I8, 1, 1, None, 0, 0),
+    Shape(Type::I16, Type::I16, 1, 2, None, 0, 0),
+    Shape(Type::I32, Type::I32, 1, 4, None, 0, 0),
+    Shape(Type::I64, Type::I64, 1, 8, None, 0, 0),
+    Shape(Type::F32, Type::F32, 1, 4, None, 0x7FC0_0000, 0),
+    Shape(Type::F64, Type::F64, 1, 8, None, Q64, 0),
+    Shape(Type::I128, Type::I128, 1, 16, Some(Type::I64), 0, 0),
+    Shape(Type::F16, Type::F16, 1, 2, None, 0x7E00, 0),
+    Shape(Type::F128, Type::F128, 1, 16, None, 0, Q128),
+    Shape(Type::I8X2, Type::I8, 2, 2, None, 0, 0),
+    Shape(Type::I8X4, Type::I8, 4, 4, None, 0, 0),
+    Shape(Type::I8X8, Type::I8, 8, 8, None, 0, 0),
+    Shape(Type::I8X16, Type::I8, 16, 16, None, 0, 0),
+    Shape(Type::I16X2, Type::I16, 2, 4, None, 0, 0),
+    Shape(Type::I16X4, Type::I16, 4, 8, None, 0, 0),
+    Shape(Type::I16X8, Type::I16, 8, 16, None, 0, 0),
+    Shape(Type::I32X2, Type::I32, 2, 8, None, 0, 0),
+    Shape(Type::I32X4, Type::I32, 4, 16, None, 0, 0),
+    Shape(Type::I64X2, Type::I64, 2, 16, None, 0, 0),
+    Shape(Type::F16X2, Type::F16, 2, 4, Some(Type::F16), D16, 0),
+    Shape(Type::F16X4, Type::F16, 4, 8, Some(Type::F16), Q16, 0),
+    Shape(Type::F16X8, Type::F16, 8, 16, Some(Type::F16), Q16, Q16),
+    Shape(Type::F32X2, Type::F32, 2, 8, Some(Type::F32), Q32, 0),
+    Shape(Type::F32X4, Type::F32, 4, 16, Some(Type::F32), Q32, Q32),
+    Shape(Type::F64X2, Type::F64, 2, 16, Some(Type::F64), Q64, Q64),
 ];
 
 // Up to 128 bits.
-#[derive(Clone, Copy)]
+#[derive(Clone, Copy, Debug, PartialEq, Eq)]
 pub struct Bits {
     pub low: u64,
     pub high: u64,
@@ -156,14 +153,10 @@ impl Type {
         n < Type::COUNT
     }
 
-    pub fn from_number(n: u32) -> Found
+    pub fn from_number(n: u32) -> Option<Type>
         ensures { number_found result ≡ known_number n }
     {
-        if n < Type::COUNT {
-            Found::Is(Type(n))
-        } else {
-            Found::Nothing
-        }
+        if Type::known(n) { Some(Type(n)) } else { None }
     }
 
     pub fn number(self) -> u32
@@ -175,10 +168,9 @@ impl Type {
     fn shape(self) -> Shape
         ensures { Shaped self.0 result }
     {
-        if self.0 < Type::COUNT {
-            SHAPES[self.0 as usize]
-        } else {
-            Shape(self.0, 0, 0, 0, 0, 0, 0)
+        match SHAPES.get(self.0 as usize) {
+            Some(shape) => *shape,
+            None => Shape(self, Type(0), 0, 0, None, 0, 0),
         }
     }
 
@@ -186,7 +178,7 @@ impl Type {
     pub fn lane(self) -> Type
         ensures { result.0 ≡ lane_of self.0 }
     {
-        Type(self.shape().1)
+        self.shape().1
     }
 
     pub fn lanes(self) -> u32
@@ -202,22 +194,20 @@ impl Type {
         self.shape().3
     }
 
-    // A zero of this type is one constant, or is made in two steps: then this is the number of the first one's type plus one, else 0.
-    pub fn step_plus_one(self) -> u32
-        ensures { result ≡ plus_one (step_of self.0) }
+    // A zero of this type is one constant, or is made in two steps: then this is the type of the first.
+    pub fn step(self) -> Option<Type>
+        ensures { number_found result ≡ step_of self.0 }
     {
         self.shape().4
     }
 
-    // The type of the first of two steps.
-    pub fn step(self) -> Found
-        ensures { number_found result ≡ step_of self.0 }
+    // The number of that type plus one, else 0.
+    pub fn step_plus_one(self) -> u32
+        ensures { result ≡ plus_one (step_of self.0) }
     {
-        let s = self.step_plus_one();
-        if s == 0 {
-            Found::Nothing
-        } else {
-            Found::Is(Type(s - 1))
+        match self.step() {
+            Some(first) => first.0 + 1,
+            None => 0,
         }
     }
 
@@ -233,12 +223,50 @@ impl Type {
     }
 }
 
+// Where a value comes from: made by the caller, a parameter that the builder gave a block, a zero where nothing was defined, a parameter of the caller's.
+#[derive(Clone, Copy, Debug, PartialEq, Eq)]
+pub enum Sort {
+    Made,
+    Param,
+    Zero,
+    Caller,
+}
+
+// The number that a cell and a dump have for it.
+impl From<Sort> for u32 {
+    ghost from_gives = { λ s n. n ≡ number_of s };
+
+    fn from(sort: Sort) -> u32 {
+        match sort {
+            Sort::Made => 0,
+            Sort::Param => 1,
+            Sort::Zero => 2,
+            Sort::Caller => 3,
+        }
+    }
+}
+
+impl Sort {
+    // The sort with this number.
+    fn numbered(n: u32) -> Sort
+        requires { n < sort_room }
+        ensures { number_of result ≡ n }
+    {
+        match n {
+            0 => Sort::Made,
+            1 => Sort::Param,
+            2 => Sort::Zero,
+            _ => Sort::Caller,
+        }
+    }
+}
+
 // What a value is: its cell holds the type in the lowest five bits, since the type is read most, then the sort in two and a bit that is the mark: stack maps
 // must have the value. The block stands on top, so that no limit on blocks moves the others.
-#[derive(Clone, Copy)]
+#[derive(Clone, Copy, Debug, PartialEq, Eq)]
 pub struct Described {
     pub ty: u32,
-    pub sort: u32,
+    pub sort: Sort,
     pub block: Block,
 }
 
@@ -252,11 +280,11 @@ impl Described {
 
     // The cell, with no mark.
     pub fn cell(self) -> u32
-        requires { Fits self.ty self.sort self.block.0 }
-        ensures { result ≡ packed self.ty self.sort 0 self.block.0 }
+        requires { Fits self.ty (number_of self.sort) self.block.0 }
+        ensures { result ≡ packed self.ty (number_of self.sort) 0 self.block.0 }
     {
-        (self.block.0 * Described::MARKS * Described::SORTS + self.sort) * Described::TYPES
-            + self.ty
+        let sort = u32::from(self.sort);
+        (self.block.0 * Described::MARKS * Described::SORTS + sort) * Described::TYPES + self.ty
     }
 
     // What any cell says, whether it is marked or not.
@@ -265,7 +293,7 @@ impl Described {
     {
         Described {
             ty: cell % Described::TYPES,
-            sort: cell / Described::TYPES % Described::SORTS,
+            sort: Sort::numbered(cell / Described::TYPES % Described::SORTS),
             block: Block(cell / Described::TYPES / Described::SORTS / Described::MARKS),
         }
     }
@@ -350,7 +378,7 @@ pub const FORM_NEED: usize = 2
 
 pub const WORK_NEED: usize = 2 * CALL_ROOM + RESULT_ROOM;
 
-#[derive(Clone, Copy)]
+#[derive(Clone, Copy, Debug, PartialEq, Eq)]
 pub struct Limits {
     pub blocks: u32,
     pub variables: u32,
@@ -376,7 +404,7 @@ impl Limits {
     }
 }
 
-#[derive(Clone, Copy)]
+#[derive(Clone, Copy, Debug, PartialEq, Eq)]
 pub struct Rooms {
     pub values: usize,
     pub zeros: usize,

@@ -20,7 +20,7 @@ use Rattle.session.specs.Ends.{Ended}
 use Rattle.session.proofs.Determined.{cells_show}
 
 module _ (ks xs ys zs : List ℕ) {before after : Lent} (h : Ended ks xs ys zs before after 0) (a : Asked) (n : named a ≡ true) where
-  -- `row` and `row_code`, lent the table of the form that has the row
+  -- what `row` hands out, and the code, of the table of the form that has the row
   pub row_after : {t r : Bor (List ℕ)} {code : ℕ} → t.now ≡ table_in after.form a → IsRow t a r → code ≡ code_of t.now a
       → (r.now ≡ listed (session (calls ks xs ys zs)).form a) × (code ≡ 0)
   row_after = row_shown (calls ks xs ys zs) after (length ks) (cells_show ks xs ys zs h) a n

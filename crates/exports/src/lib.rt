@@ -2,15 +2,17 @@
 #![tactic(auto)]
 
 ghost use Rattle.std.specs.Prelude.{◌≡◌, drop};
+ghost use Rattle.alias.specs.Answer.{code_of as resolved_code, number_of as resolved_number};
 ghost use Rattle.definition.specs.Resolve.{Resolved};
 ghost use Rattle.draw.specs.Draws.{Draws};
 ghost use Rattle.layout.specs.Outcome.{lent};
-ghost use Rattle.reader.specs.Marks.{IsRecorded, next_of};
-ghost use Rattle.reader.specs.Rows.{Located};
+ghost use Rattle.reader.specs.Marks.{IsRecorded, mark_code, mark_number, next_of};
+ghost use Rattle.reader.specs.Rows.{Located, span_code, span_length, span_start};
 ghost use Rattle.reader.specs.declared.Asked.TheVariants.{Params, Args};
 ghost use Rattle.session.specs.Ends.{Ended};
 ghost use Rattle.exports.specs.Told.{TypeTold, told};
 
+use alias::Unresolved;
 use entity::{Block, Branch, Type, Value};
 use reader::{Asked, Span};
 
@@ -23,6 +25,11 @@ pub const KINDS: u32 = 17;
 
 // Sorts of value are numbered from 0.
 pub const SORTS: u32 = 4;
+
+// The codes of what C gets as a number: all is well; what is asked for isn't there.
+const OK: u32 = 0;
+
+const ABSENT: u32 = 6;
 
 const TOLD: [u32; 13] = [
     VERSION,
@@ -46,6 +53,72 @@ const TOLD: [u32; 13] = [
 pub struct SangvirebAnswer {
     pub code: u32,
     pub number: u32,
+}
+
+impl SangvirebAnswer {
+    fn found(number: u32) -> SangvirebAnswer
+        ensures { (result.code ≡ 0) × (result.number ≡ number) }
+    {
+        SangvirebAnswer { code: OK, number }
+    }
+
+    fn refused(code: u32) -> SangvirebAnswer
+        ensures { (result.code ≡ code) × (result.number ≡ 0) }
+    {
+        SangvirebAnswer { code, number: 0 }
+    }
+}
+
+// What resolving a value answers.
+impl From<Result<Value, Unresolved>> for SangvirebAnswer {
+    ghost from_gives = { λ r a. (a.code ≡ resolved_code r) × (a.number ≡ resolved_number r) };
+
+    fn from(resolved: Result<Value, Unresolved>) -> SangvirebAnswer {
+        match resolved {
+            Ok(value) => SangvirebAnswer::found(value.0),
+            Err(why) => SangvirebAnswer::refused(why.code()),
+        }
+    }
+}
+
+// Whether a value that is there is recorded, 1 or 0.
+impl From<Option<bool>> for SangvirebAnswer {
+    ghost from_gives = { λ r a. (a.code ≡ mark_code r) × (a.number ≡ mark_number r) };
+
+    fn from(recorded: Option<bool>) -> SangvirebAnswer {
+        match recorded {
+            Some(is) => SangvirebAnswer::found(u32::from(is)),
+            None => SangvirebAnswer::refused(ABSENT),
+        }
+    }
+}
+
+// Where a row's entries lie in its table, as C sees it. With code 6 there is no such row, and no entry.
+#[repr(C)]
+#[derive(Clone, Copy)]
+pub struct SangvirebSpan {
+    pub code: u32,
+    pub start: usize,
+    pub length: usize,
+}
+
+impl From<Option<Span>> for SangvirebSpan {
+    ghost from_gives = { λ r s. (s.code ≡ span_code r) × (s.start ≡ span_start r) × (s.length ≡ span_length r) };
+
+    fn from(located: Option<Span>) -> SangvirebSpan {
+        match located {
+            Some(Span { start, length }) => SangvirebSpan {
+                code: OK,
+                start,
+                length,
+            },
+            None => SangvirebSpan {
+                code: ABSENT,
+                start: 0,
+                length: 0,
+            },
+        }
+    }
 }
 
 // Code and length of a picture, as C sees them.
@@ -86,7 +159,10 @@ pub extern "C" fn sangvireb_session(
         (lent codes.old numbers.old graph.old form.old work.old)
         (lent codes.new numbers.new graph.new form.new work.new) result }
 {
-    session::session(kinds, xs, ys, zs, codes, numbers, graph, form, work)
+    match session::session(kinds, xs, ys, zs, codes, numbers, graph, form, work) {
+        Ok(()) => OK,
+        Err(why) => why.code(),
+    }
 }
 
 // Follows alias targets: crates/alias says what it answers.
@@ -94,27 +170,23 @@ pub extern "C" fn sangvireb_session(
 pub extern "C" fn sangvireb_resolve(targets: &[u32], value: u32) -> SangvirebAnswer
     ensures { Resolved targets.now value result.code result.number }
 {
-    let a = alias::resolve(targets, Value(value));
-    SangvirebAnswer {
-        code: a.code,
-        number: a.number,
-    }
+    alias::resolve(targets, Value(value)).into()
 }
 
 // The parameters of a block, in the lent table of parameters: crates/reader says where.
 #[unsafe(no_mangle)]
-pub extern "C" fn sangvireb_params(params: &[u32], block: u32) -> Span
+pub extern "C" fn sangvireb_params(params: &[u32], block: u32) -> SangvirebSpan
     ensures { Located params.now (Params record { 0 = block }) result.code result.start result.length }
 {
-    reader::locate(params, Asked::Params(Block(block)))
+    reader::locate(params, Asked::Params(Block(block))).into()
 }
 
 // The arguments of a branch's destination by its place, in the lent table of arguments.
 #[unsafe(no_mangle)]
-pub extern "C" fn sangvireb_args(args: &[u32], branch: u32, place: u32) -> Span
+pub extern "C" fn sangvireb_args(args: &[u32], branch: u32, place: u32) -> SangvirebSpan
     ensures { Located args.now (Args record { 0 = branch } place) result.code result.start result.length }
 {
-    reader::locate(args, Asked::Args(Branch(branch), place))
+    reader::locate(args, Asked::Args(Branch(branch), place)).into()
 }
 
 // Is the value recorded for stack maps, by the lent descriptions of the values?
@@ -122,11 +194,7 @@ pub extern "C" fn sangvireb_args(args: &[u32], branch: u32, place: u32) -> Span
 pub extern "C" fn sangvireb_recorded(described: &[u32], value: u32) -> SangvirebAnswer
     ensures { IsRecorded described.now value result.code result.number }
 {
-    let a = reader::recorded(described, Value(value));
-    SangvirebAnswer {
-        code: a.code,
-        number: a.number,
-    }
+    reader::recorded(described, Value(value)).into()
 }
 
 // The first value from this number on that is; a number past the descriptions if there is none.
@@ -142,10 +210,12 @@ pub extern "C" fn sangvireb_next_recorded(described: &[u32], from: usize) -> usi
 pub extern "C" fn sangvireb_draw(graph: &[u32], form: &[u32], buffer: &mut [u8]) -> SangvirebDrawn
     ensures { Draws graph.now form.now buffer.old buffer.new result.code result.length }
 {
-    let d = draw::draw(graph, form, buffer);
-    SangvirebDrawn {
-        code: d.code,
-        length: d.length,
+    match draw::draw(graph, form, buffer) {
+        Ok(length) => SangvirebDrawn { code: 0, length },
+        Err(e) => SangvirebDrawn {
+            code: e.code(),
+            length: 0,
+        },
     }
 }
 
@@ -171,6 +241,5 @@ pub extern "C" fn sangvireb_type(ty: u32) -> SangvirebType
 pub extern "C" fn sangvireb_limit(which: u32) -> u32
     ensures { result ≡ told which }
 {
-    let at = which as usize;
-    if at < TOLD.len() { TOLD[at] } else { 0 }
+    TOLD.get(which as usize).copied().unwrap_or(0)
 }

@@ -9,11 +9,13 @@ use native.Mathlib.Omega.{arith}
 use native.Mathlib.Numerals.{add-one}
 use lib.ListN.{get_or, set}
 use Rattle.entity.specs.declared.Described.{Described}
-use Rattle.entity.specs.Described.{packed, Parts, with_mark}
+use Rattle.entity.specs.declared.Sort.{Sort}
+use Rattle.entity.specs.declared.Sort.TheVariants.{Made, Param, Zero, Caller}
+use Rattle.entity.specs.Described.{packed, number_of, Parts, with_mark}
 use Rattle.entity.specs.Types.{type_count}
 use Rattle.entity.proofs.Packing.{packed_type, marked_packed}
 use Rattle.definition.specs.Base.{put}
-use Rattle.definition.specs.Form.{Graph, Form, Info, Sort, with_makes, with_target}
+use Rattle.definition.specs.Form.{Graph, Form, Info, Sort as SortDefined, with_makes, with_target}
 use Rattle.definition.specs.Read.{make, record_binding}
 use Rattle.definition.specs.Session.{bit}
 use Rattle.definition.specs.Tables.{sort_number}
@@ -24,6 +26,7 @@ use Rattle.layout.specs.Counts.{more}
 use Rattle.layout.specs.Layout.{described, form_sizes, form_tables, Shows}
 use Rattle.layout.proofs.Cells.{store}
 use Rattle.layout.proofs.Columns.{column_at, column_more, column_put}
+use Rattle.form.specs.Sorts.{sort_of}
 use Rattle.layout.proofs.Same.{sort_small, bit_small}
 use Rattle.form.specs.Can.{Cells, CanMake, CanCount, HasValue}
 
@@ -31,7 +34,14 @@ use Rattle.form.specs.Can.{Cells, CanMake, CanCount, HasValue}
 abbrev describes : Form → ℕ → ℕ
 describes s x = described (s.info x) (s.recorded x)
 
-module _ (l : List ℕ) (c : Counts) (s : Form) (p : CanMake l c s) (k : Sort) (ty b : ℕ) where
+-- the code's numbers of the sorts are the definition's, and have room in a cell
+pub sort_numbered : (k : Sort) → number_of k ≡ sort_number (sort_of k)
+sort_numbered Made = refl
+sort_numbered Param = refl
+sort_numbered Zero = refl
+sort_numbered Caller = refl
+
+module _ (l : List ℕ) (c : Counts) (s : Form) (p : CanMake l c s) (k : SortDefined) (ty b : ℕ) where
   abbrev n : ℕ
   n = s.next
 
@@ -71,7 +81,7 @@ module _ (l : List ℕ) (s : Form) where
     pub type_is : (d : Described) → Parts (get_or l (base form_sizes 3 + x) 0) d → (s.info x).type < type_count → d.ty ≡ (s.info x).type
     type_is d P lt =
         let q = s.info x in
-        packed_type d.ty d.sort P.mark d.block.0 q.type (sort_number q.sort) (bit (s.recorded x)) q.home P.type (omega arith)
+        packed_type d.ty (number_of d.sort) P.mark d.block.0 q.type (sort_number q.sort) (bit (s.recorded x)) q.home P.type (omega arith)
         (sym P.whole ∙ described_cell)
 
     pub alias_stored : (y : ℕ) → Cells (set l (base form_sizes 2 + x) y) (with_target s (put x y s.target))

@@ -1,6 +1,6 @@
 -- What the functions over the form's cells ask. Each asks it of some form that the cells show, and gives its answer for every such form.
 -- Assumes nothing.
-use Rattle.std.specs.Prelude.{ℕ, suc, ◌≤◌, ◌<◌, ◌≡◌, false, List, [], ◌∷◌, ◌++◌, length, get_or}
+use Rattle.std.specs.Prelude.{ℕ, suc, ◌≤◌, ◌<◌, ◌≡◌, false, List, [], ◌∷◌, ◌++◌, length}
 use Rattle.std.proofs.Math.Option.{none}
 use Rattle.entity.specs.Limits.{limits, value_room, zero_room, wait_room, param_room, pred_room}
 use Rattle.definition.specs.Base.{has}
@@ -115,15 +115,14 @@ pub record HasPending (lent : List ℕ) (b : ℕ) (s : Form) : Type 0 where
   pub known : b < limits.blocks
   pub few : length (s.pending b) ≤ wait_room limits
 
--- the first n entries of the list are b's pending variables, in order
-pub record Lists (list : List ℕ) (b n : ℕ) (s : Form) : Type 0 where
-  pub count : n ≡ length (s.pending b)
-  pub at : (i : ℕ) → i < n → get_or list i 0 ≡ get_or (firsts (s.pending b)) i 0
+-- the list is b's pending variables, in order
+abbrev pub Lists : List ℕ → ℕ → Form → Type 0
+Lists list b s = list ≡ firsts (s.pending b)
 
 -- and none is pending in the cells
-pub record Taken (lent list : List ℕ) (b n : ℕ) (s : Form) : Type 0 where
+pub record Taken (lent list : List ℕ) (b : ℕ) (s : Form) : Type 0 where
   pub cells : Cells lent (set_pending b [] s)
-  pub lists : Lists list b n s
+  pub lists : Lists list b s
 
 -- ---- the zero log, the blocks placed
 

@@ -1,42 +1,34 @@
 // The form in lent cells: every read and every change of it. Nothing above this crate mentions its cells.
+// The caller lends them, so they and the counts are parameters of each function, and no struct keeps them.
 #![tactic(auto)]
 
 ghost use Rattle.std.specs.Prelude.{◌≡◌, ℕ, suc, ◌<◌, ◌≤◌, length, get_or};
-ghost use Rattle.entity.specs.Described.{Fits, type_room};
+ghost use Rattle.entity.specs.Described.{Fits, number_of, type_room};
 ghost use Rattle.entity.specs.Limits.{limits, value_room, wait_room};
 ghost use Rattle.entity.specs.Options.{value_of};
 ghost use Rattle.entity.specs.Types.{type_count};
 ghost use Rattle.definition.specs.Base.{put, put₂, is_some, ◌∷ʳ◌, has, any, up_from, without};
-ghost use Rattle.definition.specs.Form.{Graph, Form, Sort, def, with_makes, with_target, with_owns, with_args};
+ghost use Rattle.definition.specs.Form.{Graph, Form, def, with_makes, with_target, with_owns, with_args};
 ghost use Rattle.definition.specs.Read.{make as made_of, set_params, wait, log_zero, place_block, record_binding};
-ghost use Rattle.definition.specs.Tables.{sort_number};
 ghost use Rattle.layout.specs.Counts.{more};
 ghost use Rattle.layout.specs.Layout.{Shows};
+ghost use Rattle.form.specs.Sorts.{sort_of};
 ghost use Rattle.form.specs.Can.{Cells, Ex, CanMake, CanCount, HasValue, CanAppend, HasParams, HasParam, NextParam};
 ghost use Rattle.form.specs.Can.{HasOwns, CanOwn, HasArgs, CanFeed};
-ghost use Rattle.form.specs.Can.{HasDef, HasDefs, Recorded, CanWait, HasPending, Lists, Taken, CanLog, HasPlaced, CanPlace};
+ghost use Rattle.form.specs.Can.{HasDef, HasDefs, Recorded, CanWait, HasPending, Taken, CanLog, HasPlaced, CanPlace};
 
-use entity::{Block, Branch, Described, OptionValue, PARAM_ROW, Value, Variable, WAIT_ROW};
+use entity::{Block, Branch, Described, Sort, Value, Variable};
 use layout::{
-    ARGS, Counts, DEFS, DESCRIBED, MADE_COUNT, OWNS, PARAMS, PENDING, PLACED, TARGET, VALUE_COUNT,
-    ZERO_BLOCKS, ZERO_CALLS,
+    Counts, DESCRIBED, MADE_COUNT, OWNS, PLACED, TARGET, VALUE_COUNT, ZERO_BLOCKS, ZERO_CALLS,
+    args_at, def_at, params_at, pending_at,
 };
 
-// The sorts of values: made by the caller, a parameter that the builder gave a block, a zero where nothing was defined, a parameter of the caller's.
-pub const MADE: u32 = 0;
-
-pub const PARAM: u32 = 1;
-
-pub const ZERO: u32 = 2;
-
-pub const CALLER: u32 = 3;
-
 // The next value. It is its own alias target until it becomes another name.
-pub fn make(form: &mut [u32], c: Counts, sort: u32, ty: u32, block: Block) -> Counts
+pub fn make(form: &mut [u32], c: Counts, sort: Sort, ty: u32, block: Block) -> Counts
     requires ex { Ex (CanMake form.old c) }
-    requires fits { Fits ty sort block.0 }
-    ensures { (result ≡ more c) × ((s : Form) → CanMake form.old c s → (k : Sort) → sort ≡ sort_number k
-        → Shows form.new (more c) (made_of k ty block.0 s)) }
+    requires fits { Fits ty (number_of sort) block.0 }
+    ensures { (result ≡ more c)
+        × ((s : Form) → CanMake form.old c s → Shows form.new (more c) (made_of (sort_of sort) ty block.0 s)) }
 {
     let n = c.values;
     let i = n as usize;
@@ -52,7 +44,7 @@ pub fn count_made(form: &mut [u32])
     requires { Ex (CanCount form.old) }
     ensures { (s : Form) → CanCount form.old s → Cells form.new (with_makes s (suc s.makes)) }
 {
-    form[MADE_COUNT] = form[MADE_COUNT] + 1;
+    form[MADE_COUNT] += 1;
 }
 
 // How many values the caller made: the limit is on these.
@@ -83,17 +75,14 @@ pub fn zero_count(form: &[u32]) -> u32
 }
 
 // The next value, as the block's last parameter: the builder's or the caller's, by its sort.
-pub fn append_block_param(form: &mut [u32], c: Counts, block: Block, sort: u32, ty: u32) -> Counts
+pub fn append_block_param(form: &mut [u32], c: Counts, block: Block, sort: Sort, ty: u32) -> Counts
     requires ex { Ex (CanAppend form.old c block.0) }
     requires ty_lt_type_room { ty < type_room }
-    requires sort_value { (k : Sort) × (sort ≡ sort_number k) }
-    ensures { (result ≡ more c) × ((s : Form) → CanAppend form.old c block.0 s → (k : Sort) → sort ≡ sort_number k
-        → Shows form.new (more c) (set_params block.0 (s.params block.0 ∷ʳ s.next) (made_of k ty block.0 s))) }
+    ensures { (result ≡ more c) × ((s : Form) → CanAppend form.old c block.0 s
+        → Shows form.new (more c) (set_params block.0 (s.params block.0 ∷ʳ s.next) (made_of (sort_of sort) ty block.0 s))) }
 {
-    let b = block.0 as usize;
-    let n = c.values;
     let d = make(form, c, sort, ty, block);
-    rows::push(form, PARAMS + b * PARAM_ROW, n);
+    rows::push(form, params_at(block), c.values);
     d
 }
 
@@ -103,8 +92,7 @@ pub fn remove_block_param(form: &mut [u32], block: Block, val: Value)
     ensures { (s : Form) → HasParams form.old block.0 s
         → Cells form.new (set_params block.0 (without val.0 (s.params block.0)) s) }
 {
-    let b = block.0 as usize;
-    rows::remove(form, PARAMS + b * PARAM_ROW, val.0);
+    rows::remove(form, params_at(block), val.0);
 }
 
 // The block's parameter at a place.
@@ -112,9 +100,7 @@ pub fn block_param(form: &[u32], block: Block, place: u32) -> Value
     requires { Ex (HasParam form.now block.0 place) }
     ensures { (s : Form) → HasParam form.now block.0 place s → result.0 ≡ get_or (s.params block.0) place 0 }
 {
-    let b = block.0 as usize;
-    let k = place as usize;
-    Value(form[PARAMS + b * PARAM_ROW + 1 + k])
+    Value(form[params_at(block) + 1 + place as usize])
 }
 
 // How many of the block's parameters are the caller's: these stand first.
@@ -122,8 +108,7 @@ pub fn own_count(form: &[u32], block: Block) -> u32
     requires { Ex (HasOwns form.now block.0) }
     ensures { (s : Form) → HasOwns form.now block.0 s → result ≡ s.owns block.0 }
 {
-    let b = block.0 as usize;
-    form[OWNS + b]
+    form[OWNS + block.0 as usize]
 }
 
 // One more of them, of which a block may have only so many.
@@ -132,8 +117,7 @@ pub fn count_own(form: &mut [u32], block: Block)
     ensures { (s : Form) → CanOwn form.old block.0 s
         → Cells form.new (with_owns s (put block.0 (suc (s.owns block.0)) s.owns)) }
 {
-    let b = block.0 as usize;
-    form[OWNS + b] = form[OWNS + b] + 1;
+    form[OWNS + block.0 as usize] += 1;
 }
 
 // The value becomes another name.
@@ -142,22 +126,15 @@ pub fn change_to_alias(form: &mut [u32], val: Value, to: Value)
     ensures { (s : Form) → HasValue form.old val.0 s
         → Cells form.new (with_target s (put val.0 to.0 s.target)) }
 {
-    let i = val.0 as usize;
-    form[TARGET + i] = to.0;
+    form[TARGET + val.0 as usize] = to.0;
 }
 
 // What is recorded as the definition of the variable in the block.
-pub fn definition(form: &[u32], var: Variable, block: Block) -> OptionValue
+pub fn definition(form: &[u32], var: Variable, block: Block) -> Option<Value>
     requires { Ex (HasDef form.now var.0 block.0) }
     ensures { (s : Form) → HasDef form.now var.0 block.0 s → value_of result ≡ def s var.0 block.0 }
 {
-    let v = var.0 as usize;
-    let b = block.0 as usize;
-    let cell = form[DEFS + (v * entity::BLOCKS as usize + b)];
-    if cell == 0 {
-        return OptionValue::None;
-    }
-    OptionValue::Some(Value(cell - 1))
+    form[def_at(var, block)].checked_sub(1).map(Value)
 }
 
 // The value is the definition of the variable in the block: plus one, so that value 0 is one too.
@@ -166,9 +143,7 @@ pub fn record_def(form: &mut [u32], var: Variable, block: Block, val: Value)
     requires val_bound { val.0 < value_room limits }
     ensures { Recorded form.old form.new var.0 block.0 val.0 }
 {
-    let v = var.0 as usize;
-    let b = block.0 as usize;
-    form[DEFS + (v * entity::BLOCKS as usize + b)] = val.0 + 1;
+    form[def_at(var, block)] = val.0 + 1;
 }
 
 // Has the variable a definition in one of the first blocks?
@@ -177,15 +152,7 @@ pub fn is_defined(form: &[u32], var: Variable, blocks: u32) -> bool
     ensures { (s : Form) → HasDefs form.now var.0 blocks s
         → result ≡ any (λ b. is_some (def s var.0 b)) (up_from 0 blocks) }
 {
-    let mut b: u32 = 0;
-    while b < blocks {
-        let here = definition(form, var, Block(b));
-        if let OptionValue::Some(val) = here {
-            return true;
-        }
-        b += 1;
-    }
-    false
+    (0..blocks).any(|b| definition(form, var, Block(b)).is_some())
 }
 
 // A variable receives the value: if the variable is marked, stack maps must have it.
@@ -207,8 +174,7 @@ pub fn push_pending(form: &mut [u32], var: Variable, block: Block)
     ensures { (s : Form) → CanWait form.old block.0 s → (x : ℕ)
         → Cells form.new (wait var.0 block.0 x s) }
 {
-    let b = block.0 as usize;
-    rows::push(form, PENDING + b * WAIT_ROW, var.0);
+    rows::push(form, pending_at(block), var.0);
 }
 
 // How many variables are pending in the block.
@@ -217,40 +183,22 @@ pub fn pending_count(form: &[u32], block: Block) -> u32
     ensures { (result ≤ wait_room limits) × ((s : Form) → HasPending form.now block.0 s
         → result ≡ length (s.pending block.0)) }
 {
-    let b = block.0 as usize;
-    form[PENDING + b * WAIT_ROW]
+    form[pending_at(block)]
 }
 
-// Copies the block's pending variables to the front of the list.
-fn list_pending(form: &[u32], block: Block, list: &mut [u32]) -> u32
-    requires ex { Ex (HasPending form.now block.0) }
-    requires limits_in_bounds { wait_room limits ≤ length list.old }
-    ensures { (result ≤ wait_room limits) × ((s : Form) → HasPending form.now block.0 s
-        → Lists list.new block.0 result s) }
-{
-    let n = pending_count(form, block);
-    let b = block.0 as usize;
-    let at = PENDING + b * WAIT_ROW;
-    let k = n as usize;
-    let mut i: usize = 0;
-    while i < k {
-        list[i] = form[at + 1 + i];
-        i += 1;
-    }
-    n
-}
-
-// Moves the block's pending variables to the front of the list: settling them may make others pend, in other blocks.
-pub fn take_pending(form: &mut [u32], block: Block, list: &mut [u32]) -> u32
+// Moves the block's pending variables to the front of the list, and answers these: settling them may make others pend, in other blocks.
+pub fn take_pending<'a>(form: &mut [u32], block: Block, list: &'a mut [u32]) -> &'a [u32]
     requires ex { Ex (HasPending form.old block.0) }
     requires limits_in_bounds { wait_room limits ≤ length list.old }
-    ensures { (result ≤ wait_room limits)
-        × ((s : Form) → HasPending form.old block.0 s → Taken form.new list.new block.0 result s) }
+    ensures { (length result.now ≤ wait_room limits)
+        × ((s : Form) → HasPending form.old block.0 s → Taken form.new result.now block.0 s) }
 {
-    let n = list_pending(form, block, list);
-    let b = block.0 as usize;
-    rows::clear(form, PENDING + b * WAIT_ROW);
-    n
+    let n = pending_count(form, block) as usize;
+    let at = pending_at(block);
+    let pending = &mut list[..n];
+    pending.copy_from_slice(&form[at + 1..at + 1 + n]);
+    rows::clear(form, at);
+    pending
 }
 
 // The parameter of the pending variable that has n - 1 others behind it: settled ones may have left the list, so count from its end.
@@ -258,8 +206,7 @@ pub fn pending_param(form: &[u32], block: Block, n: u32) -> Value
     requires { (x : ℕ) × Ex (NextParam form.now block.0 n x) }
     ensures { (x : ℕ) → (s : Form) → NextParam form.now block.0 n x s → result.0 ≡ x }
 {
-    let b = block.0 as usize;
-    let at = PARAMS + b * PARAM_ROW;
+    let at = params_at(block);
     let count = form[at];
     let k = (count - n) as usize;
     Value(form[at + 1 + k])
@@ -279,15 +226,8 @@ fn is_placed(form: &[u32], block: Block) -> bool
     requires { Ex (HasPlaced form.now) }
     ensures { (s : Form) → HasPlaced form.now s → result ≡ has block.0 s.placed }
 {
-    let b = block.0;
     let n = form[PLACED] as usize;
-    if n == 0 {
-        return false;
-    }
-    if form[PLACED + n] == b {
-        return true;
-    }
-    rows::has(form, PLACED, b)
+    n != 0 && (form[PLACED + n] == block.0 || rows::has(form, PLACED, block.0))
 }
 
 // The block is placed after the others, unless it was.
@@ -306,9 +246,7 @@ pub fn argument_count(form: &[u32], branch: Branch, place: u32) -> u32
     requires { Ex (HasArgs form.now branch.0 place) }
     ensures { (s : Form) → HasArgs form.now branch.0 place s → result ≡ length (s.args branch.0 place) }
 {
-    let p = branch.0 as usize;
-    let i = place as usize;
-    form[ARGS + (p * entity::DESTS as usize + i) * PARAM_ROW]
+    form[args_at(branch, place)]
 }
 
 // The value is the next argument of the branch at one of its destinations.
@@ -317,8 +255,5 @@ pub fn append_argument(form: &mut [u32], branch: Branch, place: u32, val: Value)
     ensures { (s : Form) → CanFeed form.old branch.0 place s
         → Cells form.new (with_args s (put₂ branch.0 place (s.args branch.0 place ∷ʳ val.0) s.args)) }
 {
-    let p = branch.0 as usize;
-    let i = place as usize;
-    let at = ARGS + (p * entity::DESTS as usize + i) * PARAM_ROW;
-    rows::push(form, at, val.0);
+    rows::push(form, args_at(branch, place), val.0);
 }

@@ -1,38 +1,27 @@
 -- What the cells show after each change of the graph: the law of the table that is changed; the other tables are as they were.
 -- Assumes nothing.
-use Prim.Native.Nat.{ℕ, suc, ◌+◌, ◌<◌}
+use Prim.Native.Nat.{ℕ, ◌+◌, ◌<◌}
 use mathlib.Core.Path.{◌≡◌, refl, ◌∙◌}
 use mathlib.Core.Bool.{true}
 use mathlib.Core.List.{List}
 use native.Mathlib.Omega.{arith}
+use lib.Dec.{ltb}
+use borrow.Author.Tests.{lt-ltb}
 use lib.ListN.{length, set, get_or}
 use Rattle.entity.specs.Limits.{limits}
 use Rattle.definition.specs.Base.{put, position, ◌∷ʳ◌}
-use Rattle.definition.specs.Form.{Graph, with_blocks, with_types, with_branch, with_dests, with_preds, with_declared, with_marks}
-use Rattle.definition.specs.Session.{swap_out, mark_sealed}
+use Rattle.definition.specs.Form.{Graph, with_types, with_dests, with_preds, with_declared}
+use Rattle.definition.specs.Session.{swap_out}
 use Rattle.layout.specs.Cells.{base}
 use Rattle.layout.specs.Layout.{type_row, dest_row, pred_row, graph_sizes, graph_tables}
+use Rattle.std.specs.Prelude.{Option, Some, None, if◌then◌else◌}
 use Rattle.layout.specs.Rows.{Row, Pushable, pushed, swapped, seek}
-use Rattle.layout.proofs.Cells.{store}
 use Rattle.layout.proofs.Rows.{row_count, row_pushable}
 use Rattle.layout.proofs.Searches.{position_below, row_place}
 use Rattle.layout.proofs.Tables.{mark_set, list_pushed, rows_pushed, rows_swapped}
-use Rattle.graph.specs.Seen.{Shown, Seen, dests_start, preds_start}
+use Rattle.graph.specs.Seen.{Shown, dests_start, preds_start}
 use Rattle.graph.specs.Seen.{CanDeclareVariable, CanDeclareDest, CanDeclarePredecessor, CanRemovePredecessor}
 use Rattle.graph.proofs.Cells.{types_row, dests_row, preds_row, preds_few, preds_room}
-
-module _ {cells : List ℕ} {g : Graph} (s : Seen cells g) where
-  pub block_declared : (b : ℕ) → Shown (set cells (base graph_sizes 0) (b + 1)) (with_blocks g (suc b))
-  block_declared b = store graph_sizes cells (graph_tables g) 0 s.cells 0 (b + 1) (λ i. suc b) (omega arith) (omega arith) (omega arith) (λ i lt n. absurd (n (omega arith)))
-
-  pub branch_declared : (b : ℕ) → b < limits.blocks → Shown (set cells (base graph_sizes 2 + b) 1) (with_branch g (put b true g.branch))
-  branch_declared b lb = mark_set graph_sizes cells (graph_tables g) 2 s.cells (omega arith) g.branch b refl lb
-
-  pub block_sealed : (b : ℕ) → b < limits.blocks → Shown (set cells (base graph_sizes 3 + b) 1) (mark_sealed g b)
-  block_sealed b lb = mark_set graph_sizes cells (graph_tables g) 3 s.cells (omega arith) g.sealed b refl lb
-
-  pub variable_marked : (v : ℕ) → v < limits.variables → Shown (set cells (base graph_sizes 5 + v) 1) (with_marks g (put v true g.marks))
-  variable_marked v lv = mark_set graph_sizes cells (graph_tables g) 5 s.cells (omega arith) g.marks v refl lv
 
 module _ {cells : List ℕ} {g : Graph} (s : CanDeclareVariable cells g) where
   pub variable_room : Pushable cells (base graph_sizes 1)
@@ -72,6 +61,10 @@ module _ {cells : List ℕ} {g : Graph} {a : ℕ} (b : ℕ) (lb : b < limits.blo
 
     pub place_taken : k < get_or cells a 0
     place_taken = omega (arith, predecessor_place, position_below p (g.preds b) s.there, row_count cells a pred_row (g.preds b) row)
+
+    -- so the search answers it
+    pub place_found : {r : Option ℕ} → r ≡ (if ltb k (get_or cells a 0) then Some k else None) → r ≡ Some k
+    place_found {r} e = rw (lt-ltb k (get_or cells a 0) place_taken) at e
 
     pub predecessor_removed : Shown (swapped cells a k) (with_preds g (put b (swap_out p (g.preds b)) g.preds))
     predecessor_removed =

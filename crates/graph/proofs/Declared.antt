@@ -1,14 +1,11 @@
 -- A branch is declared somewhere just where a block that it names has it: a branch is declared only to blocks that it names, and these are there.
 -- Assumes nothing.
-use Prim.Native.Nat.{ℕ, ◌+◌, ◌≤◌, ◌<◌}
-use mathlib.Core.Path.{◌≡◌, refl, sym, ap, ◌∙◌}
+use Prim.Native.Nat.{ℕ}
+use mathlib.Core.Path.{◌≡◌, refl, sym, ◌∙◌}
 use mathlib.Core.Logic.{inl, inr}
-use mathlib.Core.Bool.{Bool, true, false, ◌||◌}
+use mathlib.Core.Bool.{Bool, true, false}
 use mathlib.Core.List.{List, [], ◌∷◌}
-use native.Mathlib.Numerals.{add-one}
 use native.Mathlib.Omega.{arith}
-use lib.ListN.{length, get_or, drop, drop_of_length-le}
-use lib.Seq.{drop-cons}
 use Rattle.definition.specs.Base.{has, any, up_from}
 use Rattle.definition.specs.Form.{Graph}
 use Rattle.definition.specs.Session.{declared_anywhere}
@@ -39,26 +36,8 @@ module _ (f : ℕ → Bool) where
       by false true p q = sym (none_within r l back p) ∙ q
       by false false p q = refl
 
--- among the destinations of p from the one at i on
-abbrev pub declared_from : Graph → ℕ → ℕ → Bool
-declared_from g p i = any (λ b. has p (g.preds b)) (drop i (g.dests p))
-
 module _ {cells : List ℕ} (g : Graph) (s : Seen cells g) (p : ℕ) where
-  pub all_named : declared_from g p 0 ≡ declared_anywhere g p
+  pub all_named : any (λ b. has p (g.preds b)) (g.dests p) ≡ declared_anywhere g p
   all_named = same_among (λ b. has p (g.preds b)) (g.dests p) (up_from 0 g.blocks)
       (λ b i t. up_in g.blocks 0 b (omega arith) (omega (arith, s.bounds.aims p b i)))
       (λ b i t. s.sound.names b p (in_has p (g.preds b) t))
-
-  module _ (i : ℕ) where
-    pub none_left : length (g.dests p) ≤ i → declared_from g p i ≡ false
-    none_left le = ap (any (λ b. has p (g.preds b))) (drop_of_length-le (g.dests p) le)
-
-    module _ (lt : i < length (g.dests p)) (b : ℕ) (at : b ≡ get_or (g.dests p) i 0) where
-      here : declared_from g p i ≡ has p (g.preds b) || declared_from g p (i + 1)
-      here = rw (at, add-one i, drop-cons (g.dests p) i 0 lt)
-
-      pub found_here : has p (g.preds b) ≡ true → declared_from g p i ≡ true
-      found_here e = here ∙ ap (λ (z : Bool). z || declared_from g p (i + 1)) e
-
-      pub not_here : has p (g.preds b) ≡ false → declared_from g p (i + 1) ≡ declared_from g p i
-      not_here e = sym (here ∙ ap (λ (z : Bool). z || declared_from g p (i + 1)) e)

@@ -1,13 +1,14 @@
 -- What the functions ask of the lent cells: that they show a graph that is sound and within the limits, as every session's graph is.
 -- Assumes nothing.
-use Rattle.std.specs.Prelude.{ℕ, ◌+◌, ◌*◌, ◌<◌, ◌≡◌, true, false, List, length}
+use Rattle.std.specs.Prelude.{ℕ, ◌<◌, ◌≡◌, true, false, List, length}
 use Rattle.entity.specs.Limits.{limits}
 use Rattle.definition.specs.Base.{has}
 use Rattle.definition.specs.Form.{Graph}
 use Rattle.meaning.proofs.Ranges.{Bounds}
 use Rattle.meaning.proofs.Reading.{Sound}
-use Rattle.layout.specs.Cells.{base, Holds}
-use Rattle.layout.specs.Layout.{dest_row, pred_row, graph_sizes, graph_tables}
+use Rattle.layout.specs.Cells.{Holds}
+use Rattle.layout.specs.Layout.{graph_sizes, graph_tables}
+use Rattle.layout.specs.Starts.{dests_at, preds_at}
 
 -- there is a graph such that
 abbrev pub GraphWith : (Graph → Type 0) → Type 0
@@ -41,7 +42,7 @@ pub record CanRemovePredecessor (lent : List ℕ) (b p : ℕ) (g : Graph) : Type
 
 -- where the row of a branch's destinations starts, and that of a block's predecessors
 abbrev pub dests_start : ℕ → ℕ
-dests_start p = base graph_sizes 6 + p * dest_row
+dests_start = dests_at
 
 abbrev pub preds_start : ℕ → ℕ
-preds_start b = base graph_sizes 7 + b * pred_row
+preds_start = preds_at

@@ -1,6 +1,7 @@
 // The graph in lent cells: blocks, variables' types, branches with their destinations, predecessors, marks of what is sealed or was declared, and of the
 // variables that stack maps must have.
 // Every read and every change of those cells is here, so that what is above speaks of the definition's graph alone.
+// The caller lends the cells, so they are a parameter of each function, and each asks for itself that they show a graph: no struct keeps them.
 #![tactic(auto)]
 
 ghost use Rattle.std.specs.Prelude.{◌≡◌, true, suc, ◌<◌, ◌≤◌, length, get_or};
@@ -10,11 +11,11 @@ ghost use Rattle.definition.specs.Base.{put, has, position, ◌∷ʳ◌};
 ghost use Rattle.definition.specs.Form.{Graph, with_blocks, with_types, with_branch, with_dests, with_preds, with_declared, with_marks};
 ghost use Rattle.definition.specs.Read.{type_of, single};
 ghost use Rattle.definition.specs.Session.{swap_out, declared_anywhere, mark_sealed};
-ghost use Rattle.graph.specs.Seen.{GraphWith, Shown, Seen, dests_start, preds_start};
+ghost use Rattle.graph.specs.Seen.{GraphWith, Shown, Seen};
 ghost use Rattle.graph.specs.Seen.{CanDeclareVariable, CanDeclareDest, CanDeclarePredecessor, CanRemovePredecessor};
 
-use entity::{Block, Branch, DEST_ROW, OptionBlock, PRED_ROW, Variable};
-use layout::{BLOCK_COUNT, BRANCHES, DECLARED, DESTS, MARKS, PREDS, SEALED, TYPES};
+use entity::{Block, Branch, Variable};
+use layout::{BLOCK_COUNT, BRANCHES, DECLARED, MARKS, SEALED, TYPES, dests_at, preds_at};
 
 pub fn block_count(graph: &[u32]) -> u32
     requires { GraphWith (Seen graph.now) }
@@ -37,17 +38,17 @@ pub fn variable_type(graph: &[u32], var: Variable) -> u32
     requires var_lt_variables { var.0 < limits.variables }
     ensures { (g : Graph) → Seen graph.now g → result ≡ type_of g var.0 }
 {
-    let v = var.0 as usize;
-    graph[TYPES + 1 + v]
+    graph[TYPES + 1 + var.0 as usize]
 }
 
+// A flag is one cell of its table, read and stored in one expression: a function for all four tables would take the table's start, and its contract
+// would be longer than that expression.
 pub fn has_branch(graph: &[u32], block: Block) -> bool
     requires graph_with { GraphWith (Seen graph.now) }
     requires block_lt_blocks { block.0 < limits.blocks }
     ensures { (g : Graph) → Seen graph.now g → result ≡ g.branch block.0 }
 {
-    let b = block.0 as usize;
-    graph[BRANCHES + b] != 0
+    graph[BRANCHES + block.0 as usize] != 0
 }
 
 pub fn is_sealed(graph: &[u32], block: Block) -> bool
@@ -55,8 +56,7 @@ pub fn is_sealed(graph: &[u32], block: Block) -> bool
     requires block_lt_blocks { block.0 < limits.blocks }
     ensures { (g : Graph) → Seen graph.now g → result ≡ g.sealed block.0 }
 {
-    let b = block.0 as usize;
-    graph[SEALED + b] != 0
+    graph[SEALED + block.0 as usize] != 0
 }
 
 // Was the branch ever declared to a block? Also where it was removed again; `is_declared` says whether it is so now.
@@ -65,8 +65,7 @@ pub fn ever_declared(graph: &[u32], branch: Branch) -> bool
     requires branch_lt_blocks { branch.0 < limits.blocks }
     ensures { (g : Graph) → Seen graph.now g → result ≡ g.declared branch.0 }
 {
-    let p = branch.0 as usize;
-    graph[DECLARED + p] != 0
+    graph[DECLARED + branch.0 as usize] != 0
 }
 
 // Must stack maps have what the variable receives?
@@ -75,26 +74,7 @@ pub fn is_marked(graph: &[u32], var: Variable) -> bool
     requires var_lt_variables { var.0 < limits.variables }
     ensures { (g : Graph) → Seen graph.now g → result ≡ g.marks var.0 }
 {
-    let v = var.0 as usize;
-    graph[MARKS + v] != 0
-}
-
-// The cell of the count of a branch's destinations; they follow it.
-fn dests_of(branch: Branch) -> usize
-    requires { branch.0 < limits.blocks }
-    ensures { result ≡ dests_start branch.0 }
-{
-    let p = branch.0 as usize;
-    DESTS + p * DEST_ROW
-}
-
-// The cell of the count of a block's predecessors; they follow it.
-fn preds_of(block: Block) -> usize
-    requires { block.0 < limits.blocks }
-    ensures { result ≡ preds_start block.0 }
-{
-    let b = block.0 as usize;
-    PREDS + b * PRED_ROW
+    graph[MARKS + var.0 as usize] != 0
 }
 
 pub fn dest_count(graph: &[u32], branch: Branch) -> u32
@@ -103,8 +83,7 @@ pub fn dest_count(graph: &[u32], branch: Branch) -> u32
     ensures upper_bound { result ≤ limits.dests }
     ensures value { (g : Graph) → Seen graph.now g → result ≡ length (g.dests branch.0) }
 {
-    let at = dests_of(branch);
-    graph[at]
+    graph[dests_at(branch)]
 }
 
 pub fn predecessor_count(graph: &[u32], block: Block) -> u32
@@ -113,8 +92,7 @@ pub fn predecessor_count(graph: &[u32], block: Block) -> u32
     ensures upper_bound { result ≤ pred_room limits }
     ensures value { (g : Graph) → Seen graph.now g → result ≡ length (g.preds block.0) }
 {
-    let at = preds_of(block);
-    graph[at]
+    graph[preds_at(block)]
 }
 
 // The destination at a place.
@@ -125,9 +103,7 @@ pub fn dest(graph: &[u32], branch: Branch, place: u32) -> Block
     ensures result_lt_blocks { result.0 < limits.blocks }
     ensures result_value { (g : Graph) → Seen graph.now g → result.0 ≡ get_or (g.dests branch.0) place 0 }
 {
-    let at = dests_of(branch);
-    let i = place as usize;
-    Block(graph[at + 1 + i])
+    Block(graph[dests_at(branch) + 1 + place as usize])
 }
 
 // The predecessor at a place.
@@ -138,9 +114,7 @@ pub fn predecessor(graph: &[u32], block: Block, place: u32) -> Branch
     ensures result_lt_blocks { result.0 < limits.blocks }
     ensures result_value { (g : Graph) → Seen graph.now g → result.0 ≡ get_or (g.preds block.0) place 0 }
 {
-    let at = preds_of(block);
-    let i = place as usize;
-    Branch(graph[at + 1 + i])
+    Branch(graph[preds_at(block) + 1 + place as usize])
 }
 
 // Does the branch name the block?
@@ -149,8 +123,7 @@ pub fn names(graph: &[u32], branch: Branch, block: Block) -> bool
     requires branch_lt_blocks { branch.0 < limits.blocks }
     ensures { (g : Graph) → Seen graph.now g → result ≡ has block.0 (g.dests branch.0) }
 {
-    let at = dests_of(branch);
-    rows::has(graph, at, block.0)
+    rows::has(graph, dests_at(branch), block.0)
 }
 
 // Is the branch declared to the block?
@@ -159,8 +132,7 @@ pub fn is_predecessor(graph: &[u32], block: Block, branch: Branch) -> bool
     requires block_lt_blocks { block.0 < limits.blocks }
     ensures { (g : Graph) → Seen graph.now g → result ≡ has branch.0 (g.preds block.0) }
 {
-    let at = preds_of(block);
-    rows::has(graph, at, branch.0)
+    rows::has(graph, preds_at(block), branch.0)
 }
 
 // Is the branch declared anywhere? Only a block that it names can have it.
@@ -170,31 +142,19 @@ pub fn is_declared(graph: &[u32], branch: Branch) -> bool
     ensures { (g : Graph) → Seen graph.now g → result ≡ declared_anywhere g branch.0 }
 {
     let n = dest_count(graph, branch);
-    let mut i: u32 = 0;
-    while i < n {
-        let b = dest(graph, branch, i);
-        if is_predecessor(graph, b, branch) {
-            return true;
-        }
-        i += 1;
-    }
-    false
+    (0..n).any(|i| is_predecessor(graph, dest(graph, branch, i), branch))
 }
 
 // The block whose branch is the only one to a sealed block.
-pub fn single_predecessor(graph: &[u32], block: Block) -> OptionBlock
+pub fn single_predecessor(graph: &[u32], block: Block) -> Option<Block>
     requires graph_with { GraphWith (Seen graph.now) }
     requires block_lt_blocks { block.0 < limits.blocks }
     ensures { (g : Graph) → Seen graph.now g → block_of result ≡ single g block.0 }
 {
-    if !is_sealed(graph, block) {
-        return OptionBlock::None;
+    if !is_sealed(graph, block) || predecessor_count(graph, block) != 1 {
+        return None;
     }
-    if predecessor_count(graph, block) != 1 {
-        return OptionBlock::None;
-    }
-    let p = predecessor(graph, block, 0);
-    OptionBlock::Some(Block(p.0))
+    Some(predecessor(graph, block, 0).into())
 }
 
 // The next block is there.
@@ -219,8 +179,7 @@ pub fn mark_variable(graph: &mut [u32], var: Variable)
     requires var_lt_variables { var.0 < limits.variables }
     ensures { (g : Graph) → Seen graph.old g → Shown graph.new (with_marks g (put var.0 true g.marks)) }
 {
-    let v = var.0 as usize;
-    graph[MARKS + v] = 1;
+    graph[MARKS + var.0 as usize] = 1;
 }
 
 pub fn declare_branch(graph: &mut [u32], block: Block)
@@ -228,8 +187,7 @@ pub fn declare_branch(graph: &mut [u32], block: Block)
     requires block_lt_blocks { block.0 < limits.blocks }
     ensures { (g : Graph) → Seen graph.old g → Shown graph.new (with_branch g (put block.0 true g.branch)) }
 {
-    let b = block.0 as usize;
-    graph[BRANCHES + b] = 1;
+    graph[BRANCHES + block.0 as usize] = 1;
 }
 
 pub fn declare_dest(graph: &mut [u32], branch: Branch, block: Block)
@@ -238,8 +196,7 @@ pub fn declare_dest(graph: &mut [u32], branch: Branch, block: Block)
     ensures { (g : Graph) → CanDeclareDest graph.old branch.0 g
         → Shown graph.new (with_dests g (put branch.0 (g.dests branch.0 ∷ʳ block.0) g.dests)) }
 {
-    let at = dests_of(branch);
-    rows::push(graph, at, block.0);
+    rows::push(graph, dests_at(branch), block.0);
 }
 
 // The branch comes last among the block's predecessors, and is marked for good as declared.
@@ -251,10 +208,8 @@ pub fn declare_block_predecessor(graph: &mut [u32], block: Block, branch: Branch
         → Shown graph.new (with_declared (with_preds g (put block.0 (g.preds block.0 ∷ʳ branch.0) g.preds))
         (put branch.0 true g.declared)) }
 {
-    let at = preds_of(block);
-    rows::push(graph, at, branch.0);
-    let marked = branch.0 as usize;
-    graph[DECLARED + marked] = 1;
+    rows::push(graph, preds_at(block), branch.0);
+    graph[DECLARED + branch.0 as usize] = 1;
 }
 
 // The last predecessor moves into the place of the one that leaves, which is answered.
@@ -265,8 +220,8 @@ pub fn remove_block_predecessor(graph: &mut [u32], block: Block, branch: Branch)
         → (result ≡ position 0 branch.0 (g.preds block.0))
         × Shown graph.new (with_preds g (put block.0 (swap_out branch.0 (g.preds block.0)) g.preds)) }
 {
-    let at = preds_of(block);
-    let place = rows::find(graph, at, branch.0);
+    let at = preds_at(block);
+    let place = rows::find(graph, at, branch.0).unwrap();
     rows::swap_remove(graph, at, place);
     place
 }
@@ -276,6 +231,5 @@ pub fn mark_sealed(graph: &mut [u32], block: Block)
     requires block_lt_blocks { block.0 < limits.blocks }
     ensures { (g : Graph) → Seen graph.old g → Shown graph.new (mark_sealed g block.0) }
 {
-    let b = block.0 as usize;
-    graph[SEALED + b] = 1;
+    graph[SEALED + block.0 as usize] = 1;
 }

@@ -1,126 +1,105 @@
 // A line of numbers, read byte by byte.
+ghost use Rattle.std.specs.Prelude.{◌<◌, ◌≤◌, IsTrue};
+ghost use Rattle.input.specs.declared.line.TheConstants.{MOST};
 
-#[derive(Clone, Copy)]
-pub struct Line {
-    // The line's number, and that of its latest byte, both from 1.
-    pub place: u64,
-    pub column: u64,
-    // How many numbers it has so far and the last four of them, d the latest.
-    pub count: u32,
-    // Does the next digit belong to d?
-    pub open: bool,
-    pub a: u32,
-    pub b: u32,
-    pub c: u32,
-    pub d: u32,
-    // What is wrong with its latest byte, and that byte.
-    pub fault: u32,
-    pub byte: u8,
-}
-
-// Nothing is wrong.
-pub const FINE: u32 = 0;
-
-// A byte that no line may have.
-pub const STRANGE: u32 = 1;
-
-// A digit that makes the number too large.
-pub const LARGE: u32 = 2;
-
-// A digit that begins one number too many.
-pub const MANY: u32 = 3;
+// A call is a kind and three numbers.
+pub const MOST: usize = 4;
 
 // No number has this value or more.
 pub const ABOVE: u64 = 4294967296;
 
-// A call is a kind and three numbers.
-pub const MOST: u32 = 4;
+// Why a line can't be read.
+#[derive(Clone, Copy, Debug, PartialEq, Eq)]
+pub enum Fault {
+    // A byte that no line may have.
+    Strange(u8),
+    // A digit that makes the number too large.
+    TooLarge,
+    // A digit that begins one number too many.
+    TooMany,
+    // The line is whole, and has not as many numbers as it should.
+    Has(usize),
+}
 
-// The first line, before its first byte.
-pub fn first() -> Line {
-    Line {
-        place: 1,
-        column: 0,
-        count: 0,
-        open: false,
-        a: 0,
-        b: 0,
-        c: 0,
-        d: 0,
-        fault: FINE,
-        byte: 0,
+#[derive(Clone, Copy)]
+pub struct Line {
+    // The line's number, and that of its latest byte, both from 1. Should such a count be used up, it stays.
+    place: u64,
+    column: u64,
+    // Its numbers so far.
+    numbers: [u32; MOST],
+    count: usize,
+    // Does the next digit belong to the latest number?
+    in_number: bool,
+    ghost in_room: { count ≤ MOST },
+    ghost begun: { IsTrue in_number → 0 < count },
+}
+
+impl Line {
+    fn at(place: u64) -> Line {
+        Line {
+            place,
+            column: 0,
+            numbers: [0; MOST],
+            count: 0,
+            in_number: false,
+        }
     }
-}
 
-// Should a count of lines or of bytes ever be used up, it stays.
-fn next(n: u64) -> u64 {
-    if n < u64::MAX { n + 1 } else { n }
-}
-
-// The line after this one.
-pub fn after(l: Line) -> Line {
-    let mut n = first();
-    n.place = next(l.place);
-    n
-}
-
-fn spoilt(l: Line, fault: u32) -> Line {
-    let mut n = l;
-    n.fault = fault;
-    n
-}
-
-// The number that d is with one digit more; what is too large stays ABOVE.
-fn longer(d: u32, digit: u8) -> u64 {
-    let n = d as u64 * 10 + digit as u64;
-    if n < ABOVE { n } else { ABOVE }
-}
-
-// A digit that follows a digit.
-fn more(l: Line, digit: u8) -> Line {
-    let n = longer(l.d, digit);
-    if ABOVE <= n {
-        return spoilt(l, LARGE);
+    // The first line, before its first byte.
+    pub fn first() -> Line {
+        Line::at(1)
     }
-    let mut m = l;
-    m.d = n as u32;
-    m
-}
 
-// A number's first digit. The fifth number of a line is one too many.
-fn fresh(l: Line, digit: u8) -> Line {
-    if MOST <= l.count {
-        return spoilt(l, MANY);
+    // The line after this one.
+    pub fn after(&self) -> Line {
+        Line::at(self.place.saturating_add(1))
     }
-    let mut m = l;
-    m.count = l.count + 1;
-    m.open = true;
-    m.a = l.b;
-    m.b = l.c;
-    m.c = l.d;
-    m.d = digit as u32;
-    m
-}
 
-fn taken(l: Line, byte: u8) -> Line {
-    let mut m = l;
-    m.column = next(l.column);
-    m.byte = byte;
-    m
-}
+    pub fn place(&self) -> u64 {
+        self.place
+    }
 
-// The line with one byte more, which is not its end.
-pub fn with(l: Line, byte: u8) -> Line {
-    let mut m = taken(l, byte);
-    if byte == b' ' || byte == b'\t' || byte == b'\r' {
-        m.open = false;
-        return m;
+    pub fn column(&self) -> u64 {
+        self.column
     }
-    if byte < b'0' || b'9' < byte {
-        return spoilt(m, STRANGE);
+
+    pub fn numbers(&self) -> &[u32] {
+        &self.numbers[..self.count]
     }
-    if l.open {
-        return more(m, byte - b'0');
+
+    // A digit that follows a digit.
+    fn lengthen(&mut self, digit: u8) -> Result<(), Fault>
+        requires { 0 < self.old.count }
+    {
+        let latest = self.numbers[self.count - 1];
+        let ten = latest.checked_mul(10).ok_or(Fault::TooLarge)?;
+        self.numbers[self.count - 1] = ten.checked_add(u32::from(digit)).ok_or(Fault::TooLarge)?;
+        Ok(())
     }
-    fresh(m, byte - b'0')
+
+    // A number's first digit.
+    fn begin(&mut self, digit: u8) -> Result<(), Fault> {
+        if self.count == MOST {
+            return Err(Fault::TooMany);
+        }
+        self.numbers[self.count] = u32::from(digit);
+        self.count += 1;
+        self.in_number = true;
+        Ok(())
+    }
+
+    // Takes one byte more, which is not the line's end.
+    pub fn take(&mut self, byte: u8) -> Result<(), Fault> {
+        self.column = self.column.saturating_add(1);
+        match byte {
+            b' ' | b'\t' | b'\r' => {
+                self.in_number = false;
+                Ok(())
+            }
+            b'0'..=b'9' if self.in_number => self.lengthen(byte - b'0'),
+            b'0'..=b'9' => self.begin(byte - b'0'),
+            _ => Err(Fault::Strange(byte)),
+        }
+    }
 }

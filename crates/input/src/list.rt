@@ -1,150 +1,201 @@
 // A list is a line with its number of calls, then a line `kind x y z` for each; lists follow each other.
-use crate::line;
-use crate::line::Line;
+ghost use Rattle.std.specs.Prelude.{◌≤◌};
+ghost use Rattle.entity.specs.Limits.{limits};
 
-// Where the reading stands.
-#[derive(Clone, Copy)]
-pub struct Reading {
-    pub line: Line,
-    // Is a list under way? If not, the next line tells how many calls it has.
-    pub listing: bool,
-    pub want: u32,
-    pub left: u32,
-    // How many calls are kept.
-    pub got: usize,
-    // Did the latest byte end a list?
-    pub whole: bool,
-    // What ended the reading.
-    pub trouble: u32,
-}
-
-pub const NONE: u32 = 0;
-
-// A line that can't be read, or has too few numbers or too many.
-pub const LINE: u32 = 1;
-
-// A list that lacks calls.
-pub const SHORT: u32 = 2;
+use crate::line::{Fault, Line, MOST};
 
 const CALLS: usize = entity::CALLS as usize;
 
-pub fn start() -> Reading {
-    Reading {
-        line: line::first(),
-        listing: false,
-        want: 0,
-        left: 0,
-        got: 0,
-        whole: false,
-        trouble: NONE,
+// The calls of a list, up to the limit: a column each for their kinds, xs, ys and zs, as a session takes them. There is no heap, so each has room for all.
+#[derive(Drop)]
+pub struct Calls {
+    kinds: [u32; CALLS],
+    xs: [u32; CALLS],
+    ys: [u32; CALLS],
+    zs: [u32; CALLS],
+    count: usize,
+    ghost in_room: { count ≤ limits.calls },
+}
+
+impl Calls {
+    fn new() -> Calls {
+        Calls {
+            kinds: [0; CALLS],
+            xs: [0; CALLS],
+            ys: [0; CALLS],
+            zs: [0; CALLS],
+            count: 0,
+        }
+    }
+
+    fn clear(&mut self) {
+        self.count = 0;
+    }
+
+    // A call above the limit is not kept.
+    fn keep(&mut self, call: [u32; MOST]) {
+        if self.count < CALLS {
+            let [kind, x, y, z] = call;
+            self.kinds[self.count] = kind;
+            self.xs[self.count] = x;
+            self.ys[self.count] = y;
+            self.zs[self.count] = z;
+            self.count += 1;
+        }
+    }
+
+    pub fn kinds(&self) -> &[u32] {
+        &self.kinds[..self.count]
+    }
+
+    pub fn xs(&self) -> &[u32] {
+        &self.xs[..self.count]
+    }
+
+    pub fn ys(&self) -> &[u32] {
+        &self.ys[..self.count]
+    }
+
+    pub fn zs(&self) -> &[u32] {
+        &self.zs[..self.count]
     }
 }
 
-fn stop(r: Reading, trouble: u32) -> Reading {
-    let mut t = r;
-    t.trouble = trouble;
-    t
+// What ends a reading.
+#[derive(Clone, Copy, Debug, PartialEq, Eq)]
+pub enum Trouble {
+    // A line can't be read. What it should tell, depends on whether a list is under way.
+    Line {
+        place: u64,
+        column: u64,
+        listing: bool,
+        fault: Fault,
+    },
+    // The input ends after this line, and a list lacks calls.
+    Short {
+        place: u64,
+        left: u32,
+        want: u32,
+    },
 }
 
-// The line that tells how many calls follow.
-fn opened(r: Reading) -> Reading {
-    let l = r.line;
-    if l.count != 1 {
-        return stop(r, LINE);
-    }
-    let mut t = r;
-    t.want = l.d;
-    t.left = l.d;
-    t.got = 0;
-    t
+// How many calls a list has, and how many of them are still to come.
+#[derive(Clone, Copy)]
+struct Counts {
+    want: u32,
+    left: u32,
 }
 
-fn put(t: &mut [u32], i: usize, x: u32) {
-    if i < t.len() {
-        t[i] = x;
-    }
+// Where the reading stands.
+#[derive(Drop)]
+pub struct Reading {
+    line: Line,
+    // The list under way. If there is none, the next line tells how many calls it has.
+    list: Option<Counts>,
+    calls: Calls,
 }
 
-// Keeps one call more than k, up to the limit, and answers how many are kept. The kinds come first in the cells, then the xs, the ys and the zs.
-fn keep(calls: &mut [u32], k: usize, l: Line) -> usize {
-    if CALLS <= k {
-        return k;
+impl Reading {
+    pub fn new() -> Reading {
+        Reading {
+            line: Line::first(),
+            list: None,
+            calls: Calls::new(),
+        }
     }
-    put(calls, k, l.a);
-    put(calls, CALLS + k, l.b);
-    put(calls, CALLS * 2 + k, l.c);
-    put(calls, CALLS * 3 + k, l.d);
-    k + 1
-}
 
-fn less_one(x: u32) -> u32 {
-    if x == 0 {
-        return 0;
+    // The number of the line that is read.
+    pub fn place(&self) -> u64 {
+        self.line.place()
     }
-    x - 1
-}
 
-// A call's line. Calls above the limit are read and not kept.
-fn called(calls: &mut [u32], r: Reading) -> Reading {
-    let l = r.line;
-    if l.count != line::MOST {
-        return stop(r, LINE);
+    // The calls of the list under way, or of the one that was whole last.
+    pub fn calls(&self) -> &Calls {
+        &self.calls
     }
-    let mut t = r;
-    t.left = less_one(r.left);
-    t.got = keep(calls, r.got, l);
-    t
-}
 
-// Goes on to the next line, of this list or of the next.
-fn turned(r: Reading) -> Reading {
-    if r.trouble != NONE {
-        return r;
+    fn trouble(&self, fault: Fault) -> Trouble {
+        Trouble::Line {
+            place: self.line.place(),
+            column: self.line.column(),
+            listing: self.list.is_some(),
+            fault,
+        }
     }
-    let l = line::after(r.line);
-    let mut t = r;
-    t.line = l;
-    t.listing = r.left != 0;
-    t.whole = r.left == 0;
-    t
-}
 
-fn line_end(calls: &mut [u32], r: Reading) -> Reading {
-    if r.listing {
-        return turned(called(calls, r));
+    // The line that tells how many calls follow.
+    fn opened(&mut self) -> Result<Counts, Fault> {
+        match self.line.numbers() {
+            [want] => {
+                self.calls.clear();
+                Ok(Counts {
+                    want: *want,
+                    left: *want,
+                })
+            }
+            others => Err(Fault::Has(others.len())),
+        }
     }
-    turned(opened(r))
-}
 
-// The reading with one byte more. The calls of a list that is whole stay until the next byte.
-pub fn with(calls: &mut [u32], r: Reading, byte: u8) -> Reading {
-    let mut t = r;
-    t.whole = false;
-    if byte == b'\n' {
-        return line_end(calls, t);
+    // A call's line, of this list. Calls above the limit are read and not kept.
+    fn called(&mut self, list: Counts) -> Result<Counts, Fault> {
+        match self.line.numbers() {
+            [kind, x, y, z] => {
+                self.calls.keep([*kind, *x, *y, *z]);
+                Ok(Counts {
+                    want: list.want,
+                    left: list.left.saturating_sub(1),
+                })
+            }
+            others => Err(Fault::Has(others.len())),
+        }
     }
-    let l = line::with(r.line, byte);
-    t.line = l;
-    if l.fault != line::FINE {
-        return stop(t, LINE);
-    }
-    t
-}
 
-fn lacking(r: Reading) -> Reading {
-    if r.trouble == NONE && r.listing {
-        return stop(r, SHORT);
+    // Goes on to the next line, of this list or of the next.
+    fn line_end(&mut self) -> Result<Option<u32>, Trouble> {
+        let read = match self.list {
+            None => self.opened(),
+            Some(list) => self.called(list),
+        };
+        let list = read.map_err(|fault| self.trouble(fault))?;
+        self.line = self.line.after();
+        if list.left == 0 {
+            self.list = None;
+            return Ok(Some(list.want));
+        }
+        self.list = Some(list);
+        Ok(None)
     }
-    r
-}
 
-// The input is at its end: a last line may lack its end, a list may not lack a line.
-pub fn end(calls: &mut [u32], r: Reading) -> Reading {
-    let l = r.line;
-    let mut t = r;
-    t.whole = false;
-    if l.count == 0 {
-        return lacking(t);
+    // Takes one byte more. Where it ends a list, the answer is how many calls that has; they stay until the next byte.
+    pub fn take(&mut self, byte: u8) -> Result<Option<u32>, Trouble> {
+        if byte == b'\n' {
+            return self.line_end();
+        }
+        let read = self.line.take(byte);
+        read.map_err(|fault| self.trouble(fault))?;
+        Ok(None)
     }
-    lacking(line_end(calls, t))
+
+    // A list may not lack a line.
+    fn lacking(&self) -> Result<(), Trouble> {
+        let Some(list) = self.list else {
+            return Ok(());
+        };
+        Err(Trouble::Short {
+            place: self.line.place().saturating_sub(1),
+            left: list.left,
+            want: list.want,
+        })
+    }
+
+    // The input is at its end: a last line may lack its end.
+    pub fn end(&mut self) -> Result<Option<u32>, Trouble> {
+        let mut whole = None;
+        if !self.line.numbers().is_empty() {
+            whole = self.line_end()?;
+        }
+        self.lacking()?;
+        Ok(whole)
+    }
 }

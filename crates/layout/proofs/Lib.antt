@@ -4,9 +4,9 @@ pub mod Grids  -- tables of rows, and tables that are one row
 pub mod Tables  -- marks, lists and rows of lists as tables
 pub mod Loops  -- the loops over a row, a turn at a time
 pub mod Searches  -- find in a row
+pub mod Places  -- any entry of a list, found by place
 pub mod Ends  -- the last entries of a row
 pub mod Removals  -- remove from a row keeping order; clear a row
-pub mod Copies  -- a row copied to another list
 pub mod Swaps  -- remove from a row by moving the last entry
 pub mod Values  -- columns with a cell for each value
 pub mod Stacks  -- push, read and pop the work stacks

@@ -6,10 +6,7 @@ use mathlib.Core.List.{List}
 use native.Mathlib.Omega.{arith}
 use borrow.Author.Tests.{eq-eqb, ne_eqb}
 use lib.ListN.{get_or, set}
-use Rattle.layout.specs.Rows.{seek, sift, wipe}
-
-pub all_left : (n : ℕ) → n - 0 ≡ n
-all_left n = omega arith
+use Rattle.layout.specs.Rows.{seek, sift}
 
 module _ (l : List ℕ) (a n i : ℕ) where
   step : i < n → n - i ≡ suc (n - (i + 1))
@@ -43,11 +40,3 @@ module _ (l : List ℕ) (a n i : ℕ) where
     pub sift_end : (k : ℕ) → n ≤ i → set l a k ≡ sift a x (n - i) i k l
     unfolding sift
     sift_end k h = rw (none_left h)
-
-  pub wipe_next : i < n → wipe a (n - (i + 1)) (i + 1) (set l (a + 1 + i) 0) ≡ wipe a (n - i) i l
-  unfolding wipe
-  wipe_next h = rw (step h)
-
-  pub wipe_end : n ≤ i → set l a 0 ≡ wipe a (n - i) i l
-  unfolding wipe
-  wipe_end h = rw (none_left h)

@@ -3,5 +3,6 @@ pub mod Rows
 pub mod Layout
 pub mod Counts
 pub mod Offsets
+pub mod Starts
 pub mod Same
 pub mod Outcome

@@ -6,8 +6,9 @@ ghost use Rattle.entity.specs.Limits.{limits, value_room, call_room, result_room
 ghost use Rattle.layout.specs.Counts.{more, with_values, one_call, call_less, one_result, results_less};
 ghost use Rattle.layout.specs.Layout.{graph_sizes, form_sizes, work_sizes};
 ghost use Rattle.layout.specs.Offsets.{starts};
+ghost use Rattle.layout.specs.Starts.{dests_at, preds_at, params_at, pending_at, def_at, args_at};
 
-use entity::{Block, Branch, Value};
+use entity::{Block, Branch, Value, Variable};
 
 // Where each table of the graph starts.
 pub const BLOCK_COUNT: usize = 0;
@@ -99,6 +100,46 @@ pub fn work_starts() -> [usize; 4]
     ensures { result ≡ starts work_sizes }
 {
     [CALL_VALUES, CALL_BLOCKS, RESULTS, entity::WORK_NEED]
+}
+
+// Where a row starts: at the cell of its count, which its entries follow. Each is one line of its table's two constants, which one function for all would
+// leave to its callers.
+pub fn dests_at(branch: Branch) -> usize
+    ensures { result ≡ dests_at branch.0 }
+{
+    DESTS + branch.0 as usize * entity::DEST_ROW
+}
+
+pub fn preds_at(block: Block) -> usize
+    ensures { result ≡ preds_at block.0 }
+{
+    PREDS + block.0 as usize * entity::PRED_ROW
+}
+
+pub fn params_at(block: Block) -> usize
+    ensures { result ≡ params_at block.0 }
+{
+    PARAMS + block.0 as usize * entity::PARAM_ROW
+}
+
+pub fn pending_at(block: Block) -> usize
+    ensures { result ≡ pending_at block.0 }
+{
+    PENDING + block.0 as usize * entity::WAIT_ROW
+}
+
+// The arguments of a branch at one of its destinations.
+pub fn args_at(branch: Branch, place: u32) -> usize
+    ensures { result ≡ args_at branch.0 place }
+{
+    ARGS + (branch.0 as usize * entity::DESTS as usize + place as usize) * entity::PARAM_ROW
+}
+
+// The cell of the variable's definition in the block.
+pub fn def_at(var: Variable, block: Block) -> usize
+    ensures { result ≡ def_at var.0 block.0 }
+{
+    DEFS + (var.0 as usize * entity::BLOCKS as usize + block.0 as usize)
 }
 
 // A scheduled call of the lookup machine: read at a branch's block, or settle the parameter of a block by its predecessors' results.

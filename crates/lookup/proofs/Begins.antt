@@ -40,14 +40,6 @@ module _ (gl : List ℕ) (b : ℕ) (wl₀ : List ℕ) (c₀ : Counts) where
   Scheduling wl c i = (g : Graph) (ts : List Task) (rs : List ℕ) → CanSchedule gl b wl₀ c₀ g ts rs → Scheduled b wl c i g ts rs
 
 module _ {gl : List ℕ} {b : ℕ} {wl₀ : List ℕ} {c₀ : Counts} where
-  pub schedule_start : {i : ℕ} → ((g : Graph) → Seen gl g → i ≡ length (g.preds b)) → Scheduling gl b wl₀ c₀ wl₀ c₀ i
-  schedule_start count g ts rs h =
-      let e = count g h.seen in
-      record {
-        few = omega (arith, e);
-        stacks = subst (λ (l : List ℕ). Stacks wl₀ c₀ (map look l ++ ts) rs) (sym (ap (λ (n : ℕ). drop n (g.preds b)) e ∙ drop-length (g.preds b))) h.stacks;
-      }
-
   module _ {wl : List ℕ} {c : Counts} {i : ℕ} (pos : 0 < i) (S : Scheduling gl b wl₀ c₀ wl c i) where
     pub schedule_room : {g : Graph} {ts : List Task} {rs : List ℕ} → CanSchedule gl b wl₀ c₀ g ts rs → CanCall wl c (map look (drop i (g.preds b)) ++ ts) rs
     schedule_room {g} {ts} {rs} h = let k = S g ts rs h in record { stacks = k.stacks; room = simp (length-append, length-map, length-drop) (omega (arith, h.room, k.few)) }

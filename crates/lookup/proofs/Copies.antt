@@ -10,9 +10,10 @@ use mathlib.Core.List.{List, [], ◌∷◌}
 use native.Mathlib.Omega.{arith}
 use native.Mathlib.Nat.{le_trans, not-suc-le-zero, le_of_suc-le-suc}
 use lib.Dec.{eqb}
+use Rattle.std.proofs.lemmas.Bool.{eqb-true, eqb-false, not-true, not-false}
 use lib.ListN.{length, get_or}
 use Rattle.entity.specs.declared.Block.{Block}
-use Rattle.entity.specs.declared.OptionBlock.{OptionBlock}
+use Rattle.std.specs.Prelude.{Option as OptionOf, Some, None}
 use Rattle.entity.specs.Limits.{limits}
 use Rattle.entity.specs.Options.{block_of}
 use Rattle.definition.specs.Base.{put₂}
@@ -134,7 +135,11 @@ module _ {gl l₀ : List ℕ} {to v x b₀ : ℕ} where
   pub copy_start : Copied gl l₀ to v x b₀ l₀ b₀
   copy_start g s bs h = record { now = s; rest = bs; chain = h.chain; few = h.few; bare = h.bare; cells = h.cells; same = refl }
 
-  module _ {l : List ℕ} {b : ℕ} (n : b ≡ to → ⊥) (C : Copied gl l₀ to v x b₀ l b) where
+  -- the loop's test says whether it goes on
+  module _ {l : List ℕ} {b : ℕ} (on : true ≡ not (eqb b to)) (C : Copied gl l₀ to v x b₀ l b) where
+    n : b ≡ to → ⊥
+    n = eqb-false b to (not-true (eqb b to) (sym on))
+
     module _ {g : Graph} {s : Form} {bs : List ℕ} (h : CanCopy gl l₀ v b₀ to g s bs) where
       abbrev k : Copying g to v x s bs l b
       k = C g s bs h
@@ -152,10 +157,10 @@ module _ {gl l₀ : List ℕ} {to v x b₀ : ℕ} where
       few = rw u.all at k.few
 
       -- the single predecessor is there
-      pub copy_some : {q : OptionBlock} → q ≡ OptionBlock.None → ((g : Graph) → Seen gl g → block_of q ≡ single g b) → ⊥
+      pub copy_some : {q : OptionOf Block} → q ≡ None → ((g : Graph) → Seen gl g → block_of q ≡ single g b) → ⊥
       copy_some e one = some_none (one g h.seen ∙ u.one) (ap block_of e)
 
-      module _ {q : OptionBlock} {p : Block} (there : q ≡ OptionBlock.Some p) (one : (g : Graph) → Seen gl g → block_of q ≡ single g b) where
+      module _ {q : OptionOf Block} {p : Block} (there : q ≡ Some p) (one : (g : Graph) → Seen gl g → block_of q ≡ single g b) where
         next : u.p ≡ p.0
         next = cc (one g h.seen, u.one, ap block_of there)
 
@@ -180,11 +185,13 @@ module _ {gl l₀ : List ℕ} {to v x b₀ : ℕ} where
               same = mark_first v x b u.rest k.now ∙ ap (λ (r : List ℕ). mark v x r k.now) (sym u.all) ∙ k.same;
             }
 
-    pub copy_next : {q : OptionBlock} {p : Block} → q ≡ OptionBlock.Some p → ((g : Graph) → Seen gl g → block_of q ≡ single g b)
+    pub copy_next : {q : OptionOf Block} {p : Block} → q ≡ Some p → ((g : Graph) → Seen gl g → block_of q ≡ single g b)
         → {l₁ : List ℕ} → Recorded l l₁ v b x → Copied gl l₀ to v x b₀ l₁ p.0
     copy_next e one R g s bs h = copies h e one R
 
-  pub copy_end : {l : List ℕ} {b : ℕ} → b ≡ to → Copied gl l₀ to v x b₀ l b → (g : Graph) (s : Form) (bs : List ℕ) → CanCopy gl l₀ v b₀ to g s bs → Cells l (mark v x bs s)
-  copy_end {l} e C g s bs h =
+  pub copy_end : {l : List ℕ} {b : ℕ} → false ≡ not (eqb b to) → Copied gl l₀ to v x b₀ l b
+      → (g : Graph) (s : Form) (bs : List ℕ) → CanCopy gl l₀ v b₀ to g s bs → Cells l (mark v x bs s)
+  copy_end {l} {b} off C g s bs h =
       let k = C g s bs h in
+      let e = eqb-true b to (not-false (eqb b to) (sym off)) in
       subst (λ (t : Form). Cells l t) (ap (λ (r : List ℕ). mark v x r k.now) (sym (ended k.chain e)) ∙ k.same) k.cells

@@ -2,22 +2,21 @@
 -- recorded there, and the parameter made is the definition's.
 -- Assumes nothing.
 use Prim.Native.Nat.{ℕ, suc, ◌<◌}
-use mathlib.Core.Path.{◌≡◌, refl, sym, ap, ◌∙◌, subst}
+use mathlib.Core.Path.{◌≡◌, sym, ap, ◌∙◌, subst}
 use mathlib.Core.Bool.{Bool, true, false}
 use mathlib.Core.Option.{Option, none, some}
 use mathlib.Core.List.{List, [], ◌∷◌}
 use native.Mathlib.Omega.{arith}
 use native.Mathlib.Nat.{le_trans}
-use Rattle.entity.specs.declared.OptionValue.{OptionValue}
+use Rattle.std.specs.Prelude.{Some, None}
+use Rattle.entity.specs.declared.Block.{Block}
 use Rattle.entity.specs.declared.Value.{Value}
 use Rattle.entity.specs.Limits.{limits, value_room}
 use Rattle.entity.specs.Options.{value_of}
-use Rattle.entity.specs.Described.{type_room}
 use Rattle.entity.specs.Types.{type_count}
 use Rattle.definition.specs.Base.{◌∷ʳ◌}
-use Rattle.definition.specs.Form.{Graph, Form, Info, Sort, param, def}
+use Rattle.definition.specs.Form.{Graph, Form, Info, param, def}
 use Rattle.definition.specs.Read.{make, set_params, mark_one, record_binding, new_param, wait}
-use Rattle.definition.specs.Tables.{sort_number}
 use Rattle.meaning.specs.Machine.{Task, conf, schedule, open_param, find}
 use Rattle.meaning.proofs.Maps.{put_same, or_none}
 use Rattle.meaning.proofs.Reading.{Walked, walked}
@@ -28,7 +27,6 @@ use Rattle.graph.specs.Seen.{Seen}
 use Rattle.form.specs.Can.{Cells, CanAppend, HasValue, HasDef, Recorded, CanWait}
 use Rattle.work.specs.Work.{CanAnswer}
 use Rattle.lookup.specs.declared.Stop.{Stop}
-use Rattle.lookup.specs.declared.Found.{Found}
 use Rattle.lookup.specs.Walk.{CanWalk, whole_walk, Stops}
 use Rattle.lookup.specs.Find.{CanBegin, Open, CanUse, CanFind, found, Finds}
 
@@ -36,9 +34,6 @@ module _ {gl fl wl : List ℕ} {c : Counts} {v ty b : ℕ} {g : Graph} {s : Form
   module _ (h : CanUse gl fl wl c v ty b g s ts rs) where
     pub var_low : v < limits.variables
     var_low = le_trans h.var h.seen.bounds.vars
-
-    pub type_low : ty < type_room
-    type_low = omega (arith, h.type, h.seen.bounds.typed v h.var)
 
     pub walk_can : CanWalk gl fl v b g s
     walk_can = record { seen = h.seen; cells = h.shows.cells; var = var_low; known = h.known }
@@ -61,7 +56,7 @@ module _ {gl fl wl : List ℕ} {c : Counts} {v ty b : ℕ} {g : Graph} {s : Form
       block_low = le_trans (subst (λ (k : ℕ). k < g.blocks) (sym S.block) walks.low) H.seen.bounds.few
 
       -- a definition was met
-      pub finds_met : {y : Value} → stop.value ≡ OptionValue.Some y → {wl₁ : List ℕ} {r : Found} → r.1.0 ≡ blk → r.0.0 ≡ y.0
+      pub finds_met : {y : Value} → stop.value ≡ Some y → {wl₁ : List ℕ} {r : Value × Block × Counts} → r.1.0 ≡ blk → r.0.0 ≡ y.0
           → (r.2 ≡ one_result c) × ((ts : List Task) → (rs : List ℕ) → CanAnswer wl c ts rs → Stacks wl₁ (one_result c) ts (y.0 ∷ rs))
           → Finds fl wl₁ c.call r v b g s ts rs
       finds_met {y} e {wl₁} {r} ef ev P =
@@ -76,7 +71,7 @@ module _ {gl fl wl : List ℕ} {c : Counts} {v ty b : ℕ} {g : Graph} {s : Form
           }
 
       -- nothing was met
-      module _ (z : stop.value ≡ OptionValue.None) where
+      module _ (z : stop.value ≡ None) where
         none_met : (whole_walk g v b s).met ≡ none
         none_met = sym S.value ∙ ap value_of z
 
@@ -95,10 +90,10 @@ module _ {gl fl wl : List ℕ} {c : Counts} {v ty b : ℕ} {g : Graph} {s : Form
         abbrev appended : ℕ → Form
         appended t = set_params blk (s.params blk ∷ʳ s.next) (make param t blk s)
 
-        module _ {fl₁ : List ℕ} {d : Counts} (A : (d ≡ more c) × ((s : Form) → CanAppend fl c blk s → (k : Sort) → sort_number param ≡ sort_number k
-            → Shows fl₁ (more c) (set_params blk (s.params blk ∷ʳ s.next) (make k ty blk s)))) where
+        module _ {fl₁ : List ℕ} {d : Counts} (A : (d ≡ more c) × ((s : Form) → CanAppend fl c blk s
+            → Shows fl₁ (more c) (set_params blk (s.params blk ∷ʳ s.next) (make param ty blk s)))) where
           pub record_has : HasDef fl₁ v blk (set_params blk (s.params blk ∷ʳ s.next) (make param ty blk s))
-          record_has = record { cells = (A.1 s append_can param refl).cells; var = var_low H; known = block_low }
+          record_has = record { cells = (A.1 s append_can).cells; var = var_low H; known = block_low }
 
           stacked : Stacks wl d ts rs
           stacked = rw A.0 (record { cells = H.stacks.cells; calls = H.stacks.calls; results = H.stacks.results })
@@ -138,7 +133,7 @@ module _ {gl fl wl : List ℕ} {c : Counts} {v ty b : ℕ} {g : Graph} {s : Form
             pub wait_can : CanWait fl₃ blk (new_param g v blk s)
             wait_can = record { cells = made; known = block_low; row = open_there.waits }
 
-            finds_none : {fl₄ wl₁ : List ℕ} {r : Found} {q : Bool} → ((g : Graph) → Seen gl g → q ≡ g.sealed blk) → r.1.0 ≡ blk → r.0.0 ≡ c.values → r.2.call ≡ d.call
+            finds_none : {fl₄ wl₁ : List ℕ} {r : Value × Block × Counts} {q : Bool} → ((g : Graph) → Seen gl g → q ≡ g.sealed blk) → r.1.0 ≡ blk → r.0.0 ≡ c.values → r.2.call ≡ d.call
                 → Shown fl₄ wl₁ r.2 (open_param g v blk s.next [] ts rs (new_param g v blk s) q) → Finds fl₄ wl₁ c.call r v b g s ts rs
             finds_none {fl₄} {wl₁} {r} shut ef ev ec sh = record {
               from = ef ∙ S.block;
@@ -150,7 +145,7 @@ module _ {gl fl wl : List ℕ} {c : Counts} {v ty b : ℕ} {g : Graph} {s : Form
             }
 
             module _ {q : Bool} (shut : (g : Graph) → Seen gl g → q ≡ g.sealed blk) where
-              pub finds_sealed : q ≡ true → {wl₁ : List ℕ} {r : Found} → r.1.0 ≡ blk → r.0.0 ≡ c.values
+              pub finds_sealed : q ≡ true → {wl₁ : List ℕ} {r : Value × Block × Counts} → r.1.0 ≡ blk → r.0.0 ≡ c.values
                   → (r.2.values ≡ d.values) × (r.2.call ≡ d.call)
                   × ((g : Graph) → (ts : List Task) → (rs : List ℕ) → CanBegin gl wl d c.values blk g ts rs → Stacks wl₁ r.2 (schedule g c.values blk ts) rs)
                   → Finds fl₃ wl₁ c.call r v b g s ts rs
@@ -160,7 +155,7 @@ module _ {gl fl wl : List ℕ} {c : Counts} {v ty b : ℕ} {g : Graph} {s : Form
                     work = subst (λ (x : ℕ). Stacks wl₁ r.2 (schedule g x blk ts) rs) H.shows.next (B.2 g ts rs begin_can);
                   }))
 
-              pub finds_open : q ≡ false → {fl₄ wl₁ : List ℕ} {r : Found} → r.1.0 ≡ blk → r.0.0 ≡ c.values
+              pub finds_open : q ≡ false → {fl₄ wl₁ : List ℕ} {r : Value × Block × Counts} → r.1.0 ≡ blk → r.0.0 ≡ c.values
                   → ((s : Form) → CanWait fl₃ blk s → (x : ℕ) → Cells fl₄ (wait v blk x s))
                   → (r.2 ≡ one_result d) × ((ts : List Task) → (rs : List ℕ) → CanAnswer wl d ts rs → Stacks wl₁ (one_result d) ts (c.values ∷ rs))
                   → Finds fl₄ wl₁ c.call r v b g s ts rs

@@ -11,7 +11,8 @@ use native.Mathlib.Omega.{arith}
 use native.Mathlib.Nat.{le_trans}
 use lib.Dec.{eqb}
 use lib.ListN.{length}
-use Rattle.entity.specs.declared.OptionValue.{OptionValue}
+use Rattle.std.specs.Prelude.{Option as OptionOf, Some, None}
+use Rattle.entity.specs.declared.Block.{Block}
 use Rattle.entity.specs.declared.Value.{Value}
 use Rattle.entity.specs.Limits.{limits, value_room}
 use Rattle.entity.specs.Options.{value_of}
@@ -29,7 +30,6 @@ use Rattle.layout.specs.Counts.{one_result}
 use Rattle.layout.specs.Layout.{Stacks, Shown}
 use Rattle.form.specs.Can.{Cells, HasDef}
 use Rattle.work.specs.Work.{CanAnswer}
-use Rattle.lookup.specs.declared.Found.{Found}
 use Rattle.lookup.specs.Walk.{whole_walk, Chain, there, back, CanCopy}
 use Rattle.lookup.specs.Find.{CanUse, CanFind, found, Finds, Visits}
 use Rattle.lookup.proofs.Finds.{var_low, answer_can, walks}
@@ -93,7 +93,7 @@ module _ {gl fl wl : List ℕ} {c : Counts} {v ty b : ℕ} {g : Graph} {s : Form
   pub has_def : HasDef fl v b s
   has_def = record { cells = h.shows.cells; var = var_low h; known = le_trans h.known h.seen.bounds.few }
 
-  pub visits_known : {x : OptionValue} {y : Value} → x ≡ OptionValue.Some y → ((s : Form) → HasDef fl v b s → value_of x ≡ def s v b) → {wl₁ : List ℕ} {r : Counts}
+  pub visits_known : {x : OptionOf Value} {y : Value} → x ≡ Some y → ((s : Form) → HasDef fl v b s → value_of x ≡ def s v b) → {wl₁ : List ℕ} {r : Counts}
       → (r ≡ one_result c) × ((ts : List Task) → (rs : List ℕ) → CanAnswer wl c ts rs → Stacks wl₁ (one_result c) ts (y.0 ∷ rs))
       → Visits fl wl₁ c.call r v b g s ts rs
   visits_known {y = y} e reads {wl₁} {r} P =
@@ -105,7 +105,7 @@ module _ {gl fl wl : List ℕ} {c : Counts} {v ty b : ℕ} {g : Graph} {s : Form
             (record { form = record { cells = h.shows.cells; next = h.shows.next }; work = P.1 ts rs (answer_can h) }));
       }
 
-  module _ {x : OptionValue} (z : x ≡ OptionValue.None) (reads : (s : Form) → HasDef fl v b s → value_of x ≡ def s v b) where
+  module _ {x : OptionOf Value} (z : x ≡ None) (reads : (s : Form) → HasDef fl v b s → value_of x ≡ def s v b) where
     lacks_here : def s v b ≡ none
     lacks_here = sym (reads s has_def) ∙ ap value_of z
 
@@ -128,7 +128,7 @@ module _ {gl fl wl : List ℕ} {c : Counts} {v ty b : ℕ} {g : Graph} {s : Form
     room : (length W.passed ≤ g.blocks) × ((d : ℕ) → In d W.passed → (d < g.blocks) × (def s v d ≡ none)) × (W.end < g.blocks)
     room = walk_room g h.seen.sound v s b h.known lacks_here (suc g.blocks)
 
-    module _ {fl₁ wl₁ : List ℕ} {f : Found} (F : Finds fl₁ wl₁ c.call f v b g s ts rs) where
+    module _ {fl₁ wl₁ : List ℕ} {f : Value × Block × Counts} (F : Finds fl₁ wl₁ c.call f v b g s ts rs) where
       pub copy_can : CanCopy gl fl₁ v b f.1.0 g (find g v ts rs s [] (whole_walk g v b s).end (whole_walk g v b s).met).form (before (whole_walk g v b s).end (whole_walk g v b s).passed)
       copy_can = record {
         seen = h.seen;

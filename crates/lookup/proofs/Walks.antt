@@ -12,8 +12,7 @@ use native.Mathlib.Nat.{le_trans}
 use lib.ListN.{length, get_or, set, replicate, get_or-replicate}
 use lib.Seq.{get_or-set_same, get_or-set_other}
 use Rattle.entity.specs.declared.Block.{Block}
-use Rattle.entity.specs.declared.OptionBlock.{OptionBlock}
-use Rattle.entity.specs.declared.OptionValue.{OptionValue}
+use Rattle.std.specs.Prelude.{Option as OptionOf, Some, None}
 use Rattle.entity.specs.declared.Value.{Value}
 use Rattle.entity.specs.Limits.{limits}
 use Rattle.entity.specs.Options.{value_of, block_of}
@@ -98,14 +97,14 @@ module _ {gl fl : List ℕ} {v b₀ : ℕ} where
   }
 
   module _ {m : List Bool} {b : ℕ} (lb : b < limits.blocks) (W : Walks gl fl v b₀ m b) where
-    pub stop_alone : {q : OptionBlock} → q ≡ OptionBlock.None → ((g : Graph) → Seen gl g → block_of q ≡ single g b) → (r : Stop) → r.block.0 ≡ b → r.value ≡ OptionValue.None
+    pub stop_alone : {q : OptionOf Block} → q ≡ None → ((g : Graph) → Seen gl g → block_of q ≡ single g b) → (r : Stop) → r.block.0 ≡ b → r.value ≡ None
         → Ended gl fl v b₀ r
     stop_alone e one r at nil g s h = let w = W g s h in w.ends r (stops_alone g s v w.left w.seen b r (sym (one g h.seen) ∙ ap block_of e) at (ap value_of nil))
 
-    pub stop_again : get_or m b false ≡ true → (r : Stop) → r.block.0 ≡ b → r.value ≡ OptionValue.None → Ended gl fl v b₀ r
+    pub stop_again : get_or m b false ≡ true → (r : Stop) → r.block.0 ≡ b → r.value ≡ None → Ended gl fl v b₀ r
     stop_again e r at nil g s h = let w = W g s h in w.ends r (stops_again g s v w.left w.seen b r (sym (w.marks b lb) ∙ e) at (ap value_of nil))
 
-    module _ {q : OptionBlock} {p : Block} (there : q ≡ OptionBlock.Some p) (one : (g : Graph) → Seen gl g → block_of q ≡ single g b) where
+    module _ {q : OptionOf Block} {p : Block} (there : q ≡ Some p) (one : (g : Graph) → Seen gl g → block_of q ≡ single g b) where
       module _ {g : Graph} {s : Form} (h : CanWalk gl fl v b₀ g s) where
         to : single g b ≡ some p.0
         to = sym (one g h.seen) ∙ ap block_of there
@@ -120,13 +119,13 @@ module _ {gl fl : List ℕ} {v b₀ : ℕ} where
         fresh : {g : Graph} {s : Form} (h : CanWalk gl fl v b₀ g s) → has b (W g s h).seen ≡ false
         fresh {g} {s} h = sym ((W g s h).marks b lb) ∙ new
 
-        pub stop_found : {x : OptionValue} {y : Value} → x ≡ OptionValue.Some y → ((s : Form) → HasDef fl v p.0 s → value_of x ≡ def s v p.0)
-            → (r : Stop) → r.block.0 ≡ p.0 → r.value ≡ OptionValue.Some y → Ended gl fl v b₀ r
+        pub stop_found : {x : OptionOf Value} {y : Value} → x ≡ Some y → ((s : Form) → HasDef fl v p.0 s → value_of x ≡ def s v p.0)
+            → (r : Stop) → r.block.0 ≡ p.0 → r.value ≡ Some y → Ended gl fl v b₀ r
         stop_found {y = y} e reads r at is g s h =
             let k = W g s h in
             k.ends r (stops_found g s v k.left k.seen b r p.0 (fresh h) (to h) y.0 (sym (reads s (step_has h)) ∙ ap value_of e) at (ap value_of is))
 
-        pub walk_turn : {x : OptionValue} → x ≡ OptionValue.None → ((s : Form) → HasDef fl v p.0 s → value_of x ≡ def s v p.0) → b < length m
+        pub walk_turn : {x : OptionOf Value} → x ≡ None → ((s : Form) → HasDef fl v p.0 s → value_of x ≡ def s v p.0) → b < length m
             → Walks gl fl v b₀ (set m b true) p.0
         walk_turn z reads lm g s h =
             let k = W g s h in

@@ -2,6 +2,8 @@
 -- Assumes nothing.
 use Rattle.std.specs.Prelude.{ℕ, ◌+◌, ◌≤◌, ◌<◌, ◌≡◌, false, List, [], length}
 use Rattle.std.proofs.Math.Option.{Option, none, some}
+use Rattle.entity.specs.declared.Block.{Block}
+use Rattle.entity.specs.declared.Value.{Value}
 use Rattle.entity.specs.Limits.{limits, value_room, wait_room, param_room, call_room, result_room}
 use Rattle.definition.specs.Form.{Graph, Form, def}
 use Rattle.definition.specs.Read.{type_of}
@@ -9,7 +11,6 @@ use Rattle.meaning.specs.Machine.{Task, find, visit}
 use Rattle.layout.specs.declared.Counts.{Counts}
 use Rattle.layout.specs.Layout.{Shows, Stacks, Shown}
 use Rattle.graph.specs.Seen.{Seen}
-use Rattle.lookup.specs.declared.Found.{Found}
 use Rattle.lookup.specs.Walk.{whole_walk}
 
 -- there are a graph, a form and stacks such that
@@ -65,7 +66,7 @@ found s (some x) = x
 found s none = s.next
 
 -- what is found in or for b and where it comes from, and the cells before it is copied back to the blocks passed: none of them is marked
-pub record Finds (fl wl : List ℕ) (n : ℕ) (r : Found) (v b : ℕ) (g : Graph) (s : Form) (ts : List Task) (rs : List ℕ) : Type 0 where
+pub record Finds (fl wl : List ℕ) (n : ℕ) (r : Value × Block × Counts) (v b : ℕ) (g : Graph) (s : Form) (ts : List Task) (rs : List ℕ) : Type 0 where
   pub from : r.1.0 ≡ (whole_walk g v b s).end
   pub val : r.0.0 ≡ found s (whole_walk g v b s).met
   pub call : r.2.call ≡ n

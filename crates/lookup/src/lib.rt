@@ -1,4 +1,6 @@
 // Looking a variable up: a visit of a block finds its definition along single predecessors, or makes a parameter and schedules what settles it.
+// The three tables are lent and the counts go by value, each a parameter of its own: a rule of the project, for the original's `&mut self`. The variable
+// and its type are two parameters, as in the original: in a record each line and clause that names one of them would only get longer.
 #![tactic(auto)]
 
 ghost use Rattle.std.specs.Prelude.{◌≡◌, List, ℕ, ◌<◌};
@@ -11,19 +13,15 @@ ghost use Rattle.form.specs.Can.{Cells};
 ghost use Rattle.lookup.specs.Walk.{WalkWith, CanWalk, whole_walk, Stops, CopyWith, CanCopy};
 ghost use Rattle.lookup.specs.Find.{AllWith, CanUse, Visits, CanFind, Finds, BeginWith, CanBegin};
 
-use entity::{Block, OptionBlock, OptionValue, Value, Variable};
+use entity::{Block, Sort, Value, Variable};
 use layout::{Call, Counts};
 
 // Where a walk stopped, and the definition that it met there.
 #[derive(Clone, Copy)]
 pub struct Stop {
     pub block: Block,
-    pub value: OptionValue,
+    pub value: Option<Value>,
 }
-
-// The definition found, the block that it comes from, and the counts after.
-#[derive(Clone, Copy)]
-pub struct Found(pub Value, pub Block, pub Counts);
 
 // Puts the value of the variable in the block on the stack of results, or schedules what finds it.
 pub fn use_var_nonlocal(
@@ -40,14 +38,10 @@ pub fn use_var_nonlocal(
         → CanUse graph.now form.old work.old c var.0 ty block.0 g s ts rs
         → Visits form.new work.new c.call result var.0 block.0 g s ts rs }
 {
-    let here = form::definition(form, var, block);
-    if let OptionValue::Some(val) = here {
+    if let Some(val) = form::definition(form, var, block) {
         return work::push_result(work, c, val);
     }
-    let f = find_var(graph, form, work, c, var, ty, block);
-    let val = f.0;
-    let from = f.1;
-    let d = f.2;
+    let (val, from, d) = find_var(graph, form, work, c, var, ty, block);
     copy_back(graph, form, var, block, from, val);
     d
 }
@@ -62,10 +56,9 @@ fn copy_back(graph: &[u32], form: &mut [u32], var: Variable, block: Block, from:
         → Cells form.new (mark var.0 val.0 bs s) }
 {
     let mut b = block;
-    while b.0 != from.0 {
+    while b != from {
         form::record_def(form, var, b, val);
-        let single = graph::single_predecessor(graph, b);
-        let OptionBlock::Some(pred) = single else {
+        let Some(pred) = graph::single_predecessor(graph, b) else {
             return;
         };
         b = pred;
@@ -78,32 +71,26 @@ fn walk(graph: &[u32], form: &[u32], var: Variable, block: Block) -> Stop
     ensures { (g : Graph) → (s : Form) → CanWalk graph.now form.now var.0 block.0 g s
         → Stops result (whole_walk g var.0 block.0 s) }
 {
+    // Fixed memory, cleared at each walk: no heap, and nothing is kept between walks.
     let mut visited = [false; entity::BLOCKS as usize];
     let mut b = block;
-    loop {
-        let single = graph::single_predecessor(graph, b);
-        let OptionBlock::Some(pred) = single else {
-            return Stop {
-                block: b,
-                value: OptionValue::None,
-            };
-        };
+    while let Some(pred) = graph::single_predecessor(graph, b) {
         let i = b.0 as usize;
         if visited[i] {
-            return Stop {
-                block: b,
-                value: OptionValue::None,
-            };
+            break;
         }
         visited[i] = true;
         b = pred;
-        let there = form::definition(form, var, b);
-        if let OptionValue::Some(val) = there {
+        if let Some(val) = form::definition(form, var, b) {
             return Stop {
                 block: b,
-                value: OptionValue::Some(val),
+                value: Some(val),
             };
         }
+    }
+    Stop {
+        block: b,
+        value: None,
     }
 }
 
@@ -117,30 +104,28 @@ fn find_var(
     var: Variable,
     ty: u32,
     block: Block,
-) -> Found
+) -> (Value, Block, Counts)
     requires { AllWith (CanFind graph.now form.old work.old c var.0 ty block.0) }
     ensures { (g : Graph) → (s : Form) → (ts : List Task) → (rs : List ℕ)
         → CanFind graph.now form.old work.old c var.0 ty block.0 g s ts rs
         → Finds form.new work.new c.call result var.0 block.0 g s ts rs }
 {
-    let stop = walk(graph, form, var, block);
-    let from = stop.block;
-    let value = stop.value;
-    if let OptionValue::Some(met) = value {
+    let Stop { block: from, value } = walk(graph, form, var, block);
+    if let Some(met) = value {
         let d = work::push_result(work, c, met);
-        return Found(met, from, d);
+        return (met, from, d);
     }
     let val = Value(c.values);
-    let d = form::append_block_param(form, c, from, form::PARAM, ty);
+    let d = form::append_block_param(form, c, from, Sort::Param, ty);
     form::record_def(form, var, from, val);
     form::record_stack_map_binding(form, graph::is_marked(graph, var), val);
     if graph::is_sealed(graph, from) {
         let e = begin_predecessors_lookup(graph, work, d, val, from);
-        return Found(val, from, e);
+        return (val, from, e);
     }
     form::push_pending(form, var, from);
     let e = work::push_result(work, d, val);
-    Found(val, from, e)
+    (val, from, e)
 }
 
 // Schedules the lookup in each predecessor, and what settles the sentinel after them. The call on top runs first, so the last predecessor is
@@ -158,9 +143,8 @@ pub fn begin_predecessors_lookup(
         → Stacks work.new result (schedule g sentinel.0 dest.0 ts) rs) }
 {
     let mut d = work::push_call(work, c, Call::FinishPredecessorsLookup(sentinel, dest));
-    let mut i = graph::predecessor_count(graph, dest);
-    while 0 < i {
-        i -= 1;
+    let n = graph::predecessor_count(graph, dest);
+    for i in (0..n).rev() {
         let p = graph::predecessor(graph, dest, i);
         d = work::push_call(work, d, Call::UseVar(p));
     }

@@ -1,7 +1,9 @@
-// The texts of a dump, in letters and in words, with numbers put in, output by way of a lent buffer, and why a write failed, in the system's words.
+// What a dump tells, in letters and in words; output by way of a lent buffer; and why a write failed, in the system's words.
 #![tactic(auto)]
 
+pub mod letters;
+pub mod line;
+mod names;
 pub mod out;
 pub mod reason;
-pub mod say;
-pub mod texts;
+pub mod words;

@@ -12,7 +12,7 @@ const ROOM: usize = 256;
 #[derive(Drop)]
 pub struct Words<'a>(pub &'a Error);
 
-// Text in a room of its own; what finds no room is dropped.
+// Text in a room of its own, of fixed size, since the programs take no memory as they run; what finds no room is dropped.
 #[derive(Drop)]
 struct Text {
     bytes: [u8; ROOM],

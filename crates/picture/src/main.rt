@@ -21,6 +21,6 @@ A list that can't be read, or has more calls than a session takes, gets no pictu
 error. The exit status is always 0: a program of this language can set no other, so a script looks whether
 anything stands there.
 ",
-        program::PICTURE,
+        program::Show::Picture,
     );
 }

@@ -1,14 +1,13 @@
 // What the programs share: the lists of calls in the named files, or those on standard input, are run in turn, and what each session leaves is shown.
 #![tactic(auto)]
 
-ghost use Rattle.std.specs.Prelude.{◌≡◌, ◌*◌, length};
-ghost use Rattle.entity.specs.Limits.{limits};
-
-use input::list::Reading;
-use input::{list, tell};
-use options::ROOM;
-use phrases::out::LOST;
+use input::list::{Reading, Trouble};
+use input::tell;
+use options::{Options, ROOM};
+use phrases::out::Out;
+use phrases::reason::Words;
 use std::env::Env;
+use std::fmt::Display;
 use std::fs::File;
 use std::io;
 use std::io::{Error, Read};
@@ -16,12 +15,13 @@ use std::io::{Error, Read};
 mod options;
 mod run;
 
-// How it is shown: line by line in letters, for programs, or in words, for people; or as a picture.
-pub const LETTERS: u32 = 0;
-
-pub const WORDS: u32 = 1;
-
-pub const PICTURE: u32 = 2;
+// How a session is shown: line by line in letters, for programs, or in words, for people; or as a picture.
+#[derive(Clone, Copy, Debug, PartialEq, Eq)]
+pub enum Show {
+    Letters,
+    Words,
+    Picture,
+}
 
 // How many bytes of output wait before they are written.
 const OUTPUT: usize = 65536;
@@ -29,271 +29,151 @@ const OUTPUT: usize = 65536;
 // The system's number for a name that is not of the characters that it takes.
 const NO_TEXT: i32 = 84;
 
-// How far an input is read, and how many bytes of output wait.
-#[derive(Clone, Copy)]
-struct State {
+// What ends the reading of an input early.
+#[derive(Drop)]
+enum Stop {
+    Trouble(Trouble),
+    Unread(Error),
+    // Nothing can be written any more. That was told.
+    Lost,
+}
+
+impl From<Trouble> for Stop {
+    fn from(trouble: Trouble) -> Stop {
+        Stop::Trouble(trouble)
+    }
+}
+
+impl From<Error> for Stop {
+    fn from(e: Error) -> Stop {
+        Stop::Unread(e)
+    }
+}
+
+// An input: its name, for messages, and how far it is read.
+#[derive(Drop)]
+struct Input<'n> {
+    name: &'n [u8],
     reading: Reading,
-    waiting: usize,
-    shown: u32,
-    stopped: bool,
 }
 
-// Its ensures gives the length that lending it as a slice needs.
-fn call_cells() -> [u32; entity::CALLS as usize * 4]
-    ensures { limits.calls * 4 ≡ length result }
-{
-    [0u32; entity::CALLS as usize * 4]
-}
-
-// The reading has gone on, to r. If that ends a list, shows what the list leaves; calls above the limit were not kept.
-fn turned(
+// A program at work.
+#[derive(Drop)]
+struct Program<'w, 'o> {
     rt: HostRuntime,
-    who: &[u8],
-    name: &[u8],
-    out: &mut [u8],
-    calls: &[u32],
-    s: State,
-    r: Reading,
-) -> State {
-    let mut t = s;
-    t.reading = r;
-    t.stopped = r.trouble != list::NONE;
-    if !r.whole {
-        return t;
+    // Its name, for messages.
+    who: &'w [u8],
+    show: Show,
+    out: Out<'o, HostRuntime>,
+}
+
+impl Program<'_, '_> {
+    // Tells what is wrong with what is named.
+    fn tell(&self, name: &[u8], what: &impl Display) {
+        tell::tell(&self.rt.stderr(), self.who, name, what);
     }
-    let n = run::answer(rt, who, name, out, s.waiting, s.shown, calls, r);
-    t.waiting = n;
-    t.stopped = n == LOST;
-    t
-}
 
-fn step(
-    rt: HostRuntime,
-    who: &[u8],
-    name: &[u8],
-    out: &mut [u8],
-    calls: &mut [u32],
-    s: State,
-    byte: u8,
-) -> State {
-    let r = list::with(calls, s.reading, byte);
-    turned(rt, who, name, out, calls, s, r)
-}
-
-fn steps(
-    rt: HostRuntime,
-    who: &[u8],
-    name: &[u8],
-    out: &mut [u8],
-    calls: &mut [u32],
-    s: State,
-    bytes: &[u8],
-) -> State {
-    let mut t = s;
-    let mut i: usize = 0;
-    while i < bytes.len() {
-        if t.stopped {
-            return t;
+    // Takes what came of an input, and shows what each list leaves that is whole.
+    fn take(&mut self, input: &mut Input<'_>, bytes: &[u8]) -> Result<(), Stop> {
+        for byte in bytes {
+            if let Some(count) = input.reading.take(*byte)? {
+                self.answer(input, count)?;
+            }
         }
-        t = step(rt, who, name, out, calls, t, bytes[i]);
-        i += 1;
+        Ok(())
     }
-    t
-}
 
-// The input is at its end, or can't be read further.
-fn ended(
-    rt: HostRuntime,
-    who: &[u8],
-    name: &[u8],
-    out: &mut [u8],
-    calls: &mut [u32],
-    s: State,
-) -> State {
-    let r = list::end(calls, s.reading);
-    let mut t = turned(rt, who, name, out, calls, s, r);
-    t.stopped = true;
-    t
-}
-
-fn unread(rt: HostRuntime, who: &[u8], name: &[u8], s: State, e: Error) -> State {
-    options::failed(rt, who, name, e);
-    let mut t = s;
-    t.stopped = true;
-    t
-}
-
-// Reads once and takes what came.
-fn read_some<I: Read>(
-    rt: HostRuntime,
-    who: &[u8],
-    input: &mut I,
-    name: &[u8],
-    out: &mut [u8],
-    calls: &mut [u32],
-    s: State,
-) -> State {
-    let mut space = [0u8; ROOM];
-    match input.read(&mut space) {
-        Ok(0) => ended(rt, who, name, out, calls, s),
-        Ok(n) => steps(rt, who, name, out, calls, s, &space[..n]),
-        Err(e) => unread(rt, who, name, s, e),
-    }
-}
-
-// A proved loop has to end, and nothing says that the input does. So the reads are counted down, from a number that no run uses up.
-fn read_all<I: Read>(
-    rt: HostRuntime,
-    who: &[u8],
-    input: &mut I,
-    name: &[u8],
-    out: &mut [u8],
-    calls: &mut [u32],
-    s: State,
-) -> State {
-    let mut t = s;
-    let mut turns = u64::MAX;
-    while turns > 0 {
-        if t.stopped {
-            return t;
-        }
-        t = read_some(rt, who, input, name, out, calls, t);
-        turns -= 1;
-    }
-    t
-}
-
-// Runs the lists of one input, and tells what can't be read of it.
-fn lists<I: Read>(
-    rt: HostRuntime,
-    who: &[u8],
-    input: &mut I,
-    name: &[u8],
-    out: &mut [u8],
-    calls: &mut [u32],
-    n: usize,
-    shown: u32,
-) -> usize {
-    let s = State {
-        reading: list::start(),
-        waiting: n,
-        shown: shown,
-        stopped: false,
-    };
-    let t = read_all(rt, who, input, name, out, calls, s);
-    tell::tell(&rt.stderr(), who, name, t.reading);
-    t.waiting
-}
-
-// In words the name of a file stands above its lists.
-fn titled(rt: HostRuntime, name: &[u8], out: &mut [u8], n: usize, shown: u32) -> usize {
-    if shown != WORDS {
-        return n;
-    }
-    let m = phrases::out::text(&rt, out, n, name);
-    phrases::out::text(&rt, out, m, b"\n")
-}
-
-// The named file. A name that is no text names none.
-fn opened(rt: HostRuntime, name: &[u8]) -> io::Result<File> {
-    match str::from_utf8(name) {
-        Ok(path) => File::open(&rt, path),
-        Err(_) => Err(Error::from_raw_os_error(NO_TEXT)),
-    }
-}
-
-fn file(
-    rt: HostRuntime,
-    who: &[u8],
-    name: &[u8],
-    out: &mut [u8],
-    calls: &mut [u32],
-    n: usize,
-    shown: u32,
-) -> usize {
-    match opened(rt, name) {
-        Ok(f) => {
-            let mut input = f;
-            let m = titled(rt, name, out, n, shown);
-            lists(rt, who, &mut input, name, out, calls, m, shown)
-        }
-        Err(e) => {
-            options::failed(rt, who, name, e);
-            n
+    // The input is at its end.
+    fn end(&mut self, input: &mut Input<'_>) -> Result<(), Stop> {
+        match input.reading.end()? {
+            Some(count) => self.answer(input, count),
+            None => Ok(()),
         }
     }
-}
 
-// Argument i, if it names a file.
-fn argument(
-    rt: HostRuntime,
-    who: &[u8],
-    i: usize,
-    out: &mut [u8],
-    calls: &mut [u32],
-    n: usize,
-    shown: u32,
-) -> usize {
-    let mut space = [0u8; ROOM];
-    let k = rt.arg(i, &mut space).unwrap_or(0);
-    if options::is_option(&space[..k]) {
-        return n;
+    // A proved loop has to end, and nothing says that the input does. So the reads are counted, up to a number that no run uses up.
+    fn lists<S: Read>(&mut self, name: &[u8], source: &mut S) -> Result<(), Stop> {
+        let reading = Reading::new();
+        let mut input = Input { name, reading };
+        let mut space = [0u8; ROOM];
+        for _ in 0..u64::MAX {
+            let n = source.read(&mut space)?;
+            if n == 0 {
+                return self.end(&mut input);
+            }
+            self.take(&mut input, &space[..n])?;
+        }
+        Ok(())
     }
-    file(rt, who, &space[..k], out, calls, n, shown)
-}
 
-fn files(rt: HostRuntime, who: &[u8], out: &mut [u8], calls: &mut [u32], shown: u32) -> usize {
-    let k = options::count(rt);
-    let mut n: usize = 0;
-    let mut i: usize = 1;
-    while i < k {
-        n = argument(rt, who, i, out, calls, n, shown);
-        i += 1;
+    // Runs the lists of one input, and tells what can't be read of it.
+    fn run<S: Read>(&mut self, name: &[u8], source: &mut S) {
+        match self.lists(name, source) {
+            Ok(()) | Err(Stop::Lost) => {}
+            Err(Stop::Trouble(trouble)) => self.tell(name, &trouble),
+            Err(Stop::Unread(e)) => self.tell(name, &Words(&e)),
+        }
     }
-    n
-}
 
-// Does what the options ask, and answers how many bytes of output wait.
-fn done(
-    rt: HostRuntime,
-    who: &[u8],
-    help: &[u8],
-    out: &mut [u8],
-    calls: &mut [u32],
-    o: options::Options,
-) -> usize {
-    if o.wrong {
-        return 0;
+    // In words the name of a file stands above its lists. That a name can't be written, the output tells.
+    fn title(&mut self, name: &[u8]) {
+        if self.show == Show::Words {
+            let _ = self.out.bytes(name);
+            let _ = self.out.bytes(b"\n");
+        }
     }
-    if o.help {
-        return phrases::out::text(&rt, out, 0, help);
+
+    // The named file. A name that is no text names none.
+    fn opened(&self, name: &[u8]) -> io::Result<File> {
+        match str::from_utf8(name) {
+            Ok(path) => File::open(&self.rt, path),
+            Err(_) => Err(Error::from_raw_os_error(NO_TEXT)),
+        }
     }
-    if o.files == 0 {
-        return lists(
-            rt,
-            who,
-            &mut rt.stdin(),
-            b"standard input",
-            out,
-            calls,
-            0,
-            o.shown,
-        );
+
+    fn file(&mut self, name: &[u8]) {
+        match self.opened(name) {
+            Ok(mut source) => {
+                self.title(name);
+                self.run(name, &mut source);
+            }
+            Err(e) => self.tell(name, &Words(&e)),
+        }
     }
-    files(rt, who, out, calls, o.shown)
+
+    // Argument i, if it names a file.
+    fn argument(&mut self, i: usize) {
+        let mut space = [0u8; ROOM];
+        let n = self.rt.arg(i, &mut space).unwrap_or(0);
+        if !options::is_option(&space[..n]) {
+            self.file(&space[..n]);
+        }
+    }
+
+    // Does what the options ask.
+    fn work(&mut self, help: &[u8], asked: Options) {
+        self.show = asked.show;
+        if asked.help {
+            let _ = self.out.bytes(help);
+            return;
+        }
+        if !asked.files {
+            let mut source = self.rt.stdin();
+            return self.run(b"standard input", &mut source);
+        }
+        for i in 1..options::count(&self.rt) {
+            self.argument(i);
+        }
+    }
 }
 
 // The whole of a program: its name for messages, what --help prints, and how it shows a session.
-pub fn start(rt: HostRuntime, who: &[u8], help: &[u8], shown: u32) {
-    let mut out = [0u8; OUTPUT];
-    let mut calls = call_cells();
-    let n = done(
-        rt,
-        who,
-        help,
-        &mut out,
-        &mut calls,
-        options::read(rt, who, shown),
-    );
-    phrases::out::flush(&rt, &out, n);
+pub fn start(rt: HostRuntime, who: &[u8], help: &[u8], show: Show) {
+    let mut room = [0u8; OUTPUT];
+    let out = Out::new(&rt, &mut room);
+    let mut program = Program { rt, who, show, out };
+    if let Some(asked) = program.asked() {
+        program.work(help, asked);
+    }
+    program.out.flush();
 }

@@ -1,8 +1,9 @@
 // What a program is asked by its arguments.
-use crate::{PICTURE, WORDS};
-use input::tell;
+use crate::{Program, Show};
 use phrases::reason::Words;
 use std::env::{Env, FillError};
+use std::fmt;
+use std::fmt::{Display, Formatter, Write};
 use std::io::Error;
 
 // The longest argument that is read. It holds any path.
@@ -14,83 +15,41 @@ const TOO_LONG: i32 = 36;
 #[derive(Clone, Copy)]
 pub struct Options {
     pub help: bool,
-    pub shown: u32,
-    // How many arguments name files.
-    pub files: usize,
-    // An argument that is no option and can be no file's name was told of.
-    pub wrong: bool,
+    pub show: Show,
+    // Does an argument name a file?
+    pub files: bool,
+}
+
+#[derive(Clone, Copy, Debug, PartialEq, Eq)]
+struct NoOption;
+
+impl Display for NoOption {
+    fn fmt<W: Write>(&self, f: &mut Formatter<W>) -> fmt::Result {
+        f.write_str("there is no such option; --help tells which there are")
+    }
 }
 
 // An option starts with `-`.
-pub fn is_option(s: &[u8]) -> bool {
-    if s.len() == 0 {
-        return false;
-    }
-    s[0] == b'-'
+pub fn is_option(argument: &[u8]) -> bool {
+    matches!(argument, [b'-', ..])
 }
 
-// Tells, by the system's words, that what is named can't be had.
-pub fn failed(rt: HostRuntime, who: &[u8], name: &[u8], e: Error) {
-    tell::begin(&rt.stderr(), who, name);
-    let _ = eprintln!(rt; ": {}", Words(&e));
-}
-
-fn unknown(rt: HostRuntime, who: &[u8], s: &[u8]) {
-    tell::begin(&rt.stderr(), who, s);
-    tell::say(
-        &rt.stderr(),
-        b": there is no such option; --help tells which there are\n",
-    );
-}
-
-fn asks_words(s: &[u8]) -> bool {
-    s == b"--words".as_slice()
-}
-
-fn asks_help(s: &[u8]) -> bool {
-    s == b"--help".as_slice()
-}
-
-// A picture has no words.
-fn with(rt: HostRuntime, who: &[u8], o: Options, s: &[u8]) -> Options {
-    let mut p = o;
-    if !is_option(s) {
-        p.files = more(o.files);
-        return p;
-    }
-    if o.shown != PICTURE && asks_words(s) {
-        p.shown = WORDS;
-        return p;
-    }
-    if asks_help(s) {
-        p.help = true;
-        return p;
-    }
-    unknown(rt, who, s);
-    p.wrong = true;
-    p
-}
-
-fn more(n: usize) -> usize {
-    if n < usize::MAX { n + 1 } else { n }
-}
-
-// The options with argument i.
-fn with_argument(rt: HostRuntime, who: &[u8], o: Options, i: usize) -> Options {
-    let mut space = [0u8; ROOM];
-    match rt.arg(i, &mut space) {
-        Ok(n) => with(rt, who, o, &space[..n]),
-        Err(_) => {
-            failed(rt, who, b"an argument", Error::from_raw_os_error(TOO_LONG));
-            let mut p = o;
-            p.wrong = true;
-            p
+impl Options {
+    // Takes one argument more.
+    fn take(&mut self, argument: &[u8]) -> Result<(), NoOption> {
+        match argument {
+            b"--help" => self.help = true,
+            // A picture has no words.
+            b"--words" if self.show != Show::Picture => self.show = Show::Words,
+            [b'-', ..] => return Err(NoOption),
+            _ => self.files = true,
         }
+        Ok(())
     }
 }
 
 // How many arguments the program was started with, its own name among them.
-pub fn count(rt: HostRuntime) -> usize {
+pub fn count(rt: &impl Env) -> usize {
     let mut space = [0u8; ROOM];
     for i in 0..usize::MAX {
         if let Err(FillError::NotPresent) = rt.arg(i, &mut space) {
@@ -100,18 +59,32 @@ pub fn count(rt: HostRuntime) -> usize {
     usize::MAX
 }
 
-pub fn read(rt: HostRuntime, who: &[u8], shown: u32) -> Options {
-    let k = count(rt);
-    let mut o = Options {
-        help: false,
-        shown: shown,
-        files: 0,
-        wrong: false,
-    };
-    let mut i: usize = 1;
-    while i < k {
-        o = with_argument(rt, who, o, i);
-        i += 1;
+impl Program<'_, '_> {
+    // Takes argument i. Was it taken? If not, that is told.
+    fn takes(&self, options: &mut Options, i: usize) -> bool {
+        let mut space = [0u8; ROOM];
+        let Ok(n) = self.rt.arg(i, &mut space) else {
+            self.tell(b"an argument", &Words(&Error::from_raw_os_error(TOO_LONG)));
+            return false;
+        };
+        let taken = options.take(&space[..n]);
+        if let Err(e) = taken {
+            self.tell(&space[..n], &e);
+        }
+        taken.is_ok()
     }
-    o
+
+    // What all arguments ask. None if one is no option and can be no file's name; each such is told of.
+    pub fn asked(&self) -> Option<Options> {
+        let mut options = Options {
+            help: false,
+            show: self.show,
+            files: false,
+        };
+        let mut taken = true;
+        for i in 1..count(&self.rt) {
+            taken &= self.takes(&mut options, i);
+        }
+        if taken { Some(options) } else { None }
+    }
 }

@@ -1,10 +1,11 @@
 // Runs a list over tables of its own, and shows what the session leaves.
-ghost use Rattle.std.specs.Prelude.{◌≡◌, suc, ◌*◌, ◌<◌, ◌≤◌, length};
-ghost use Rattle.entity.specs.Limits.{limits, param_room, graph_need, form_need, work_need};
-
-use crate::{PICTURE, WORDS};
-use input::list::Reading;
-use input::tell;
+use crate::{Input, Program, Show, Stop};
+use draw::Undrawn;
+use dump::Left;
+use input::list::Calls;
+use phrases::line::Style;
+use std::fmt;
+use std::fmt::{Display, Formatter, Write};
 
 const CALLS: usize = entity::CALLS as usize;
 
@@ -13,190 +14,136 @@ const PICTURE_BYTES: usize = entity::BLOCKS as usize
     * (1 + entity::DESTS as usize)
     * (8 * entity::PARAM_ROOM);
 
-// Large arrays are made by a function each, whose ensures gives the length that lending one as a slice needs.
-fn answer_cells() -> [u32; CALLS]
-    ensures { limits.calls ≡ length result }
-{
-    [0u32; CALLS]
+// What a session is lent besides its calls. It starts empty whatever they hold.
+#[derive(Drop)]
+struct Tables {
+    codes: [u32; CALLS],
+    numbers: [u32; CALLS],
+    graph: [u32; entity::GRAPH_NEED],
+    form: [u32; entity::FORM_NEED],
+    work: [u32; entity::WORK_NEED],
 }
 
-fn graph_cells() -> [u32; entity::GRAPH_NEED]
-    ensures { graph_need limits ≡ length result }
-{
-    [0u32; entity::GRAPH_NEED]
-}
-
-fn form_cells() -> [u32; entity::FORM_NEED]
-    ensures { form_need limits ≡ length result }
-{
-    [0u32; entity::FORM_NEED]
-}
-
-fn work_cells() -> [u32; entity::WORK_NEED]
-    ensures { work_need limits ≡ length result }
-{
-    [0u32; entity::WORK_NEED]
-}
-
-fn picture_bytes() -> [u8; PICTURE_BYTES]
-    ensures { limits.blocks * suc limits.dests * (8 * param_room limits) ≡ length result }
-{
-    [0u8; PICTURE_BYTES]
-}
-
-// The first k numbers of a column of calls: of their kinds, their xs, their ys or their zs.
-fn column<'a>(calls: &'a [u32], which: usize, k: usize) -> &'a [u32]
-    requires { (which < 4) × (k ≤ limits.calls) × (limits.calls * 4 ≤ length calls.now) }
-{
-    let start = which * CALLS;
-    let end = start + k;
-    &calls[start..end]
-}
-
-// Runs the session of k calls. Was it run?
-fn ran(
-    calls: &[u32],
-    k: usize,
-    codes: &mut [u32],
-    numbers: &mut [u32],
-    graph: &mut [u32],
-    form: &mut [u32],
-    work: &mut [u32],
-) -> bool {
-    if CALLS < k {
-        return false;
+impl Tables {
+    fn new() -> Tables {
+        Tables {
+            codes: [0; CALLS],
+            numbers: [0; CALLS],
+            graph: [0; entity::GRAPH_NEED],
+            form: [0; entity::FORM_NEED],
+            work: [0; entity::WORK_NEED],
+        }
     }
-    if calls.len() < CALLS * 4 {
-        return false;
+
+    // Runs a session. Was it run?
+    fn run(&mut self, calls: &Calls) -> bool {
+        session::session(
+            calls.kinds(),
+            calls.xs(),
+            calls.ys(),
+            calls.zs(),
+            &mut self.codes,
+            &mut self.numbers,
+            &mut self.graph,
+            &mut self.form,
+            &mut self.work,
+        )
+        .is_ok()
     }
-    let kinds = column(calls, 0, k);
-    let xs = column(calls, 1, k);
-    let ys = column(calls, 2, k);
-    let zs = column(calls, 3, k);
-    session::session(kinds, xs, ys, zs, codes, numbers, graph, form, work) == 0
-}
 
-fn more_than_taken(err: &impl Print, calls: u32) {
-    tell::count(err, b" has ", calls as u64);
-    tell::count(err, b" calls, a session takes ", entity::CALLS as u64);
-    tell::say(err, b": there is no picture\n");
-}
-
-fn too_long(rt: HostRuntime, who: &[u8], name: &[u8], r: Reading) {
-    let l = r.line;
-    tell::begin(&rt.stderr(), who, name);
-    tell::count(&rt.stderr(), b": the list that ends before line ", l.place);
-    more_than_taken(&rt.stderr(), r.want);
-}
-
-// A list is refused whole: it has more calls than a session takes.
-fn refused(
-    rt: HostRuntime,
-    who: &[u8],
-    name: &[u8],
-    out: &mut [u8],
-    n: usize,
-    shown: u32,
-    r: Reading,
-) -> usize {
-    if shown != PICTURE {
-        return dump::refused(&rt, out, n, shown == WORDS);
+    // What the session of these calls left.
+    fn left<'a>(&'a self, calls: &'a Calls) -> Left<'a> {
+        Left {
+            kinds: calls.kinds(),
+            xs: calls.xs(),
+            ys: calls.ys(),
+            zs: calls.zs(),
+            codes: &self.codes,
+            numbers: &self.numbers,
+            graph: &self.graph,
+            form: &self.form,
+        }
     }
-    too_long(rt, who, name, r);
-    n
 }
 
-fn not_drawn(rt: HostRuntime, who: &[u8], name: &[u8], code: u32) {
-    tell::begin(&rt.stderr(), who, name);
-    tell::count(
-        &rt.stderr(),
-        b": a picture is refused with code ",
-        code as u64,
-    );
-    tell::say(&rt.stderr(), b"\n");
-}
-
-// Tables that a session left can be drawn, and the buffer is long enough; should it not be, that is told.
-fn picture(
-    rt: HostRuntime,
-    who: &[u8],
-    name: &[u8],
-    out: &mut [u8],
-    n: usize,
-    graph: &[u32],
-    form: &[u32],
-) -> usize {
-    let mut text = picture_bytes();
-    let drawn = draw::draw(graph, form, &mut text);
-    if drawn.code != 0 {
-        not_drawn(rt, who, name, drawn.code);
-        return n;
+impl Show {
+    // How the lines of a dump are written. A picture has none.
+    fn style(self) -> Option<Style> {
+        match self {
+            Show::Letters => Some(Style::Letters),
+            Show::Words => Some(Style::Words),
+            Show::Picture => None,
+        }
     }
-    let k = drawn.length;
-    phrases::out::text(&rt, out, n, &text[..k])
 }
 
-// Shows what a session of k calls left.
-fn show(
-    rt: HostRuntime,
-    who: &[u8],
-    name: &[u8],
-    out: &mut [u8],
-    n: usize,
-    shown: u32,
-    k: usize,
-    calls: &[u32],
-    codes: &[u32],
-    numbers: &[u32],
-    graph: &[u32],
-    form: &[u32],
-) -> usize {
-    if shown == PICTURE {
-        return picture(rt, who, name, out, n, graph, form);
-    }
-    dump::dump(
-        &rt,
-        out,
-        n,
-        shown == WORDS,
-        k,
-        calls,
-        codes,
-        numbers,
-        graph,
-        form,
-    )
+// Why a list has no picture.
+#[derive(Clone, Copy, Debug, PartialEq, Eq)]
+enum NoPicture {
+    // It ends before this line, and has so many calls.
+    TooLong { place: u64, count: u32 },
+    Refused(Undrawn),
 }
 
-// A list is whole: runs it over cells of its own and shows what the session leaves. A session starts empty whatever they hold.
-pub fn answer(
-    rt: HostRuntime,
-    who: &[u8],
-    name: &[u8],
-    out: &mut [u8],
-    n: usize,
-    shown: u32,
-    calls: &[u32],
-    r: Reading,
-) -> usize {
-    let mut codes = answer_cells();
-    let mut numbers = answer_cells();
-    let mut graph = graph_cells();
-    let mut form = form_cells();
-    let mut work = work_cells();
-    let k = r.want as usize;
-    if ran(
-        calls,
-        k,
-        &mut codes,
-        &mut numbers,
-        &mut graph,
-        &mut form,
-        &mut work,
-    ) {
-        return show(
-            rt, who, name, out, n, shown, k, calls, &codes, &numbers, &graph, &form,
-        );
+impl Display for NoPicture {
+    fn fmt<W: Write>(&self, f: &mut Formatter<W>) -> fmt::Result {
+        match self {
+            NoPicture::TooLong { place, count } => write!(
+                f,
+                "the list that ends before line {place} has {count} calls, a session takes {}: there is no picture",
+                entity::CALLS
+            ),
+            NoPicture::Refused(why) => write!(f, "a picture is refused with code {}", why.code()),
+        }
     }
-    refused(rt, who, name, out, n, shown, r)
+}
+
+// The room of a picture is made by a function of its own: to count so many bytes where they are lent takes the prover too long.
+fn picture_bytes() -> [u8; PICTURE_BYTES] {
+    [0; PICTURE_BYTES]
+}
+
+impl Program<'_, '_> {
+    // Tables that a session left can be drawn, and the buffer is long enough; should it not be, that is told.
+    fn picture(&mut self, name: &[u8], tables: &Tables) {
+        let mut text = picture_bytes();
+        match draw::draw(&tables.graph, &tables.form, &mut text) {
+            Ok(length) => {
+                let _ = self.out.bytes(&text[..length]);
+            }
+            Err(why) => self.tell(name, &NoPicture::Refused(why)),
+        }
+    }
+
+    // Shows what the session of a list left.
+    fn show(&mut self, input: &Input<'_>, tables: &Tables) {
+        let Some(style) = self.show.style() else {
+            return self.picture(input.name, tables);
+        };
+        let left = tables.left(input.reading.calls());
+        let _ = dump::dump(&mut self.out, style, &left);
+    }
+
+    fn refuse(&mut self, input: &Input<'_>, count: u32) {
+        let Some(style) = self.show.style() else {
+            let place = input.reading.place();
+            return self.tell(input.name, &NoPicture::TooLong { place, count });
+        };
+        let _ = dump::refused(&mut self.out, style);
+    }
+
+    // A list of so many calls is whole: runs it, and shows what the session leaves. One that has more calls than a session takes is refused whole.
+    // A write that fails is told by the output, which is lost then.
+    pub fn answer(&mut self, input: &Input<'_>, count: u32) -> Result<(), Stop> {
+        let mut tables = Tables::new();
+        if count <= entity::CALLS && tables.run(input.reading.calls()) {
+            self.show(input, &tables);
+        } else {
+            self.refuse(input, count);
+        }
+        if self.out.is_lost() {
+            return Err(Stop::Lost);
+        }
+        Ok(())
+    }
 }

@@ -1,5 +1,6 @@
--- The promises of `row` and `row_code` leave nothing open, and they agree, since both go by `known`.
+-- The promises of `row` and of the code leave nothing open, and they agree, since both go by `known`; and so does what `find_row` answers.
 -- Assumes nothing.
+use Rattle.std.specs.Prelude.{Some, None}
 use Prim.Native.Nat.{ℕ}
 use mathlib.Core.Path.{◌≡◌, refl, sym, ◌∙◌}
 use mathlib.Core.Bool.{Bool, true, false}
@@ -8,7 +9,7 @@ use native.Mathlib.Omega.{arith}
 use lib.ListN.{length, get_or}
 use denote.Ref.{Bor}
 use Rattle.reader.specs.declared.Asked.{Asked}
-use Rattle.reader.specs.Rows.{head, known, code_of, IsRow}
+use Rattle.reader.specs.Rows.{head, known, code_of, FindsRow, IsRow}
 
 module _ {t : Bor (List ℕ)} {a : Asked} {r : Bor (List ℕ)} {code : ℕ} (p : IsRow t a r) (e : code ≡ code_of t.now a) where
   -- Any two answers that meet the promises are the same: the parts start in the same place and hold the same, and the codes are equal.
@@ -31,3 +32,20 @@ module _ {t : Bor (List ℕ)} {a : Asked} {r : Bor (List ℕ)} {code : ℕ} (p :
       by : (z : Bool) → known t.now a ≡ z → known t.now a ≡ false
       by false k = k
       by true k = absurd (omega (arith, (has_row k).0))
+
+module _ (t : Bor (List ℕ)) (a : Asked) where
+  -- `find_row` answers none only for want of a row
+  pub none_found : FindsRow t a None → known t.now a ≡ false
+  none_found six = by (known t.now a) refl
+    where
+      by : (z : Bool) → known t.now a ≡ z → known t.now a ≡ false
+      by false k = k
+      by true k = absurd (omega (arith, rw k at six))
+
+  -- and what it finds is the row
+  pub row_found : {r : Bor (List ℕ)} → FindsRow t a (Some r) → (known t.now a ≡ true) × IsRow t a r
+  row_found f = (by (known t.now a) refl, f.0)
+    where
+      by : (z : Bool) → known t.now a ≡ z → known t.now a ≡ true
+      by true k = k
+      by false k = absurd (omega (arith, rw k at f.1))

@@ -1,15 +1,14 @@
--- The first recorded value from a number on: the cell there decides, or the rest does. And in the descriptions that a session leaves a value is marked just
+-- Whether a value is recorded, by its cell. And in the descriptions that a session leaves a value is marked just
 -- where the definition has it recorded, since a cell is its parts packed.
 -- Assumes nothing.
-use Prim.Native.Nat.{ℕ, ◌+◌, ◌≤◌, ◌<◌}
+use Prim.Native.Nat.{ℕ, ◌≤◌, ◌<◌}
 use mathlib.Core.Path.{◌≡◌, refl, ap, ◌∙◌}
 use mathlib.Core.Bool.{Bool, true, false}
 use mathlib.Core.List.{List}
-use native.Mathlib.Numerals.{add-one}
 use native.Mathlib.Omega.{arith}
 use borrow.Author.Tests.{lt-ltb, le-ltb}
 use lib.Dec.{eqb, ltb}
-use lib.ListN.{length, get_or, take, drop, length-drop, drop_of_length-le}
+use lib.ListN.{length, get_or, take, drop, length-drop}
 use lib.Seq.{drop-cons, length-take-le, get_or-take, get_or-drop}
 use Rattle.entity.specs.Described.{mark_of}
 use Rattle.entity.proofs.Packing.{mark_packed}
@@ -39,12 +38,6 @@ module _ (t : List ℕ) (x : ℕ) where
     pub marked_here : eqb (mark_of (get_or t x 0)) 1 ≡ true → next_of x (drop x t) ≡ x
     marked_here e = rw (drop-cons t x 0 lt, e)
 
-    pub not_here : eqb (mark_of (get_or t x 0)) 1 ≡ false → next_of (x + 1) (drop (x + 1) t) ≡ next_of x (drop x t)
-    not_here e = rw (drop-cons t x 0 lt, e, add-one x)
-
-  pub none_left : length t ≤ x → next_of x (drop x t) ≡ x
-  none_left le = rw (drop_of_length-le t le)
-
 -- ---- what a session leaves
 
 -- the descriptions that a host lends: as many cells as there are values
@@ -60,7 +53,8 @@ recorded_shown cs left n e x lt =
     let t = descriptions left.form s.next in
     let h = holds_more form_sizes left.form (form_tables s) (render_held form_sizes _ (form_tables s) (ap (λ (u : Lent). u.form) e)) in
     let R = rooms_suffice cs in
-    let long : length t ≡ s.next = length-take-le s.next (drop (base form_sizes 3) left.form) (omega (arith, length-drop (base form_sizes 3) left.form, h.long, R.values)) in
+    let long : length t ≡ s.next = length-take-le s.next (drop (base form_sizes 3) left.form)
+    (omega (arith, length-drop (base form_sizes 3) left.form, h.long, R.values)) in
     let cell : get_or t x 0 ≡ described q (s.recorded x) =
     get_or-take s.next (drop (base form_sizes 3) left.form) x 0 lt ∙ get_or-drop (base form_sizes 3) left.form x 0
     ∙ column_at form_sizes left.form (form_tables s) 3 h s.next (λ y. described (s.info y) (s.recorded y)) refl x lt (omega (arith, R.values)) in

@@ -114,7 +114,7 @@ rows_shown cs left n e a is_named =
     let r = row_in_table (session cs).graph s (rooms_suffice cs) left.form h a is_named in
     (rw (row_known t a (listed s a) is_named r), row_read t a (listed s a) is_named r)
 
--- So `row`, lent that table, answers the definition's list, and `row_code` 0: for every block below the limit, and every branch and place below theirs.
+-- So `row`, lent that table, answers the definition's list, and the code is 0: for every block below the limit, and every branch and place below theirs.
 pub row_shown : (cs : List Call) (left : Lent) (n : ℕ) → first (needs n) left ≡ shown (session cs) → (a : Asked) → named a ≡ true
     → {t r : Bor (List ℕ)} {code : ℕ} → t.now ≡ table_in left.form a → IsRow t a r → code ≡ code_of t.now a
     → (r.now ≡ listed (session cs).form a) × (code ≡ 0)

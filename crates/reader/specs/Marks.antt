@@ -1,6 +1,6 @@
 -- Which values are recorded for stack maps, by the cells of their descriptions, one for each value.
 -- Assumes nothing.
-use Rattle.std.specs.Prelude.{ℕ, suc, ◌≡◌, Bool, List, [], ◌∷◌, length, get_or, if◌then◌else◌}
+use Rattle.std.specs.Prelude.{ℕ, suc, ◌≡◌, Bool, Option, Some, None, List, [], ◌∷◌, length, get_or, if◌then◌else◌}
 use Rattle.entity.specs.Described.{mark_of}
 use Rattle.definition.specs.Base.{◌=?◌, ◌<?◌}
 use Rattle.definition.specs.Session.{bit}
@@ -15,6 +15,15 @@ recorded_of t x = if x <? length t then (0, bit (marked (get_or t x 0))) else (6
 pub record IsRecorded (t : List ℕ) (x code number : ℕ) : Type 0 where
   pub code_is : code ≡ (recorded_of t x).0
   pub number_is : number ≡ (recorded_of t x).1
+
+-- the code and the number that stand for what `recorded` answers
+abbrev pub mark_code : Option Bool → ℕ
+mark_code (Some z) = 0
+mark_code None = 6
+
+abbrev pub mark_number : Option Bool → ℕ
+mark_number (Some z) = bit z
+mark_number None = 0
 
 -- the first recorded one of these values, which are numbered from x on; if there is none, the number after the last
 abbrev pub next_of : ℕ → List ℕ → ℕ

@@ -1,12 +1,13 @@
 -- Which row is asked for, whether a table has it, and where it lies there.
 -- Assumes nothing.
-use Rattle.std.specs.Prelude.{ℕ, ◌+◌, ◌*◌, ◌≡◌, Bool, ◌&&◌, List, length, get_or, take, drop, if◌then◌else◌}
+use Rattle.std.specs.Prelude.{ℕ, ◌+◌, ◌*◌, ◌≡◌, Bool, ◌&&◌, Option, Some, None, MatchOption, List, length, get_or, take, drop, if◌then◌else◌}
 use Rattle.std.specs.Borrow.{Bor}
 use Rattle.entity.specs.Limits.{limits, param_room}
 use Rattle.definition.specs.Base.{◌<?◌, ◌≤?◌}
 use Rattle.layout.specs.Layout.{param_row}
 use Rattle.reader.specs.declared.Asked.{Asked}
 use Rattle.reader.specs.declared.Asked.TheVariants.{Params, Args}
+use Rattle.reader.specs.declared.Span.{Span}
 
 -- of two tables, the parameters' and the arguments', the one to look in
 abbrev pub table_of {ℓ} : {A : Type ℓ} → A → A → Asked → A
@@ -44,8 +45,25 @@ pub record Located (t : List ℕ) (a : Asked) (code start length : ℕ) : Type 0
   pub start_is : start ≡ (row_of t a).0
   pub length_is : length ≡ (row_of t a).1
 
+-- the code, the start and the length that stand for what `locate` answers
+abbrev pub span_code : Option Span → ℕ
+span_code (Some s) = 0
+span_code None = 6
+
+abbrev pub span_start : Option Span → ℕ
+span_start (Some s) = s.start
+span_start None = 0
+
+abbrev pub span_length : Option Span → ℕ
+span_length (Some s) = s.length
+span_length None = 0
+
 -- r is the row of t that is asked for: not only does it hold the same, it is those cells, in their place. A cell has four bytes.
 pub record IsRow (t : Bor (List ℕ)) (a : Asked) (r : Bor (List ℕ)) : Type 0 where
   pub start : r.ref_ptr ≡ (t.ref_ptr.0, (row_of t.now a).0 * 4 + t.ref_ptr.1)
   pub long : length r.now ≡ (row_of t.now a).1
   pub cells : r.now ≡ take (row_of t.now a).1 (drop (row_of t.now a).0 t.now)
+
+-- r is the row if there is one, and none if there is not
+abbrev pub FindsRow : Bor (List ℕ) → Asked → Option (Bor (List ℕ)) → Type 0
+FindsRow t a r = MatchOption r (code_of t.now a ≡ 6) (λ part. IsRow t a part × (code_of t.now a ≡ 0))

@@ -3,8 +3,8 @@
 #![tactic(auto)]
 
 ghost use Rattle.std.specs.Prelude.{◌≡◌, ◌<◌, ◌^◌, drop};
-ghost use Rattle.reader.specs.Marks.{IsRecorded, next_of};
-ghost use Rattle.reader.specs.Rows.{Located, IsRow, code_of, named, number, table_of};
+ghost use Rattle.reader.specs.Marks.{IsRecorded, mark_code, mark_number, next_of};
+ghost use Rattle.reader.specs.Rows.{FindsRow, IsRow, Located, named, number, span_code, span_length, span_start, table_of};
 
 use entity::{Block, Branch, Described, Value};
 
@@ -15,20 +15,12 @@ pub enum Asked {
     Args(Branch, u32),
 }
 
-// Where the entries of a row lie in its table. With code 6 there is no such row, and no entry. Laid out for C, which gets it as it is.
-#[repr(C)]
-#[derive(Clone, Copy)]
+// Where the entries of a row lie in its table.
+#[derive(Clone, Copy, Debug, PartialEq, Eq)]
 pub struct Span {
-    pub code: u32,
     pub start: usize,
     pub length: usize,
 }
-
-const NOWHERE: Span = Span {
-    code: 6,
-    start: 0,
-    length: 0,
-};
 
 // Are the numbers below the limits?
 fn named(asked: Asked) -> bool
@@ -50,89 +42,68 @@ fn number(asked: Asked) -> usize
     }
 }
 
-// Where the row lies in its table, however long that is and whatever it holds.
-pub fn locate(table: &[u32], asked: Asked) -> Span
-    ensures { Located table.now asked result.code result.start result.length }
+// Where the row lies in its table, however long that is and whatever it holds; none if the table hasn't the row.
+pub fn locate(table: &[u32], asked: Asked) -> Option<Span>
+    ensures { Located table.now asked (span_code result) (span_start result) (span_length result) }
 {
     if !named(asked) {
-        return NOWHERE;
+        return None;
     }
     let head = number(asked) * entity::PARAM_ROW;
     if table.len() < head + entity::PARAM_ROW {
-        return NOWHERE;
+        return None;
     }
     let length = table[head] as usize;
     if entity::PARAM_ROOM < length {
-        return NOWHERE;
+        return None;
     }
-    Span {
-        code: 0,
+    Some(Span {
         start: head + 1,
         length,
+    })
+}
+
+// Of the two tables, the one to look in.
+fn table_of<'a>(params: &'a [u32], args: &'a [u32], asked: Asked) -> &'a [u32]
+    ensures { result ≡ table_of params.entry args.entry asked }
+{
+    match asked {
+        Asked::Params(_) => params,
+        Asked::Args(_, _) => args,
     }
 }
 
-// The row as a part of its own table.
-fn part<'a>(table: &'a [u32], asked: Asked) -> &'a [u32]
-    ensures { IsRow table.entry asked result }
+// The row itself, a part of the table that has it; none if there is no such row: so a row that is there and empty can be told apart.
+pub fn find_row<'a>(params: &'a [u32], args: &'a [u32], asked: Asked) -> Option<&'a [u32]>
+    ensures { FindsRow (table_of params.entry args.entry asked) asked result }
 {
-    let span = locate(table, asked);
-    let start = span.start;
-    let end = start + span.length;
-    &table[start..end]
+    let table = table_of(params, args, asked);
+    let span = locate(table, asked)?;
+    Some(&table[span.start..span.start + span.length])
 }
 
-// The row itself, a part of the table that has it; an empty part if there is no such row.
+// The row itself; an empty part, from the table's beginning, if there is no such row.
 pub fn row<'a>(params: &'a [u32], args: &'a [u32], asked: Asked) -> &'a [u32]
     ensures { IsRow (table_of params.entry args.entry asked) asked result }
 {
-    match asked {
-        Asked::Params(_) => part(params, asked),
-        Asked::Args(_, _) => part(args, asked),
-    }
+    find_row(params, args, asked).unwrap_or(&table_of(params, args, asked)[..0])
 }
 
-// 6 if there is no such row, else 0: so a row that is there and empty can be told apart.
-pub fn row_code(params: &[u32], args: &[u32], asked: Asked) -> u32
-    ensures { result ≡ code_of (table_of params.entry args.entry asked).now asked }
+// Whether a value is recorded for stack maps, by its cell in the lent descriptions; none if there is no such value.
+pub fn recorded(described: &[u32], value: Value) -> Option<bool>
+    ensures { IsRecorded described.now value.0 (mark_code result) (mark_number result) }
 {
-    match asked {
-        Asked::Params(_) => locate(params, asked).code,
-        Asked::Args(_, _) => locate(args, asked).code,
-    }
-}
-
-// Whether a value is recorded for stack maps, 1 or 0. With code 6 there is no such value.
-#[derive(Clone, Copy)]
-pub struct Mark {
-    pub code: u32,
-    pub number: u32,
-}
-
-// By the value's cell in the lent descriptions.
-pub fn recorded(described: &[u32], value: Value) -> Mark
-    ensures { IsRecorded described.now value.0 result.code result.number }
-{
-    let x = value.0 as usize;
-    if described.len() <= x {
-        return Mark { code: 6, number: 0 };
-    }
-    if Described::is_marked(described[x]) {
-        return Mark { code: 0, number: 1 };
-    }
-    Mark { code: 0, number: 0 }
+    let cell = described.get(value.0 as usize)?;
+    Some(Described::is_marked(*cell))
 }
 
 // The first recorded value from this number on; a number past the lent descriptions if there is none. So they are walked in order.
 pub fn next_recorded(described: &[u32], from: usize) -> usize
     ensures { result ≡ next_of from (drop from described.now) }
 {
-    let mut x = from;
-    while x < described.len() {
-        if Described::is_marked(described[x]) {
-            return x;
-        }
-        x += 1;
-    }
-    x
+    let Some(rest) = described.get(from..) else {
+        return from;
+    };
+    let marked = rest.iter().position(|cell| Described::is_marked(*cell));
+    from + marked.unwrap_or(rest.len())
 }

@@ -1,12 +1,48 @@
 -- What a call answers and leaves, in the numbers of docs/RULES.md, for each case of the definition's reply; and what every kind of call asks and promises.
 -- Assumes nothing.
-use Rattle.std.specs.Prelude.{ℕ, ◌≡◌, List}
+use Rattle.std.specs.Prelude.{ℕ, ◌≡◌, List, Result, Ok, Err}
 use Rattle.definition.specs.Form.{Graph, Form}
 use Rattle.definition.specs.Session.{State, Reply as Defined, no, ok}
 use Rattle.meaning.proofs.Sure.{Sure}
 use Rattle.layout.specs.declared.Counts.{Counts}
 use Rattle.layout.specs.Layout.{Graphs, Shows}
 use Rattle.reply.specs.declared.Reply.{Reply}
+use Rattle.reply.specs.declared.Accepted.{Accepted}
+use Rattle.reply.specs.declared.Refusal.{Refusal}
+
+-- the codes of docs/RULES.md
+abbrev pub refusal_code : Refusal → ℕ
+refusal_code Refusal.UnknownKind = 3
+refusal_code Refusal.Full = 4
+refusal_code Refusal.Skips = 5
+refusal_code Refusal.Absent = 6
+refusal_code Refusal.OtherType = 7
+refusal_code Refusal.Sealed = 8
+refusal_code Refusal.Branched = 9
+refusal_code Refusal.DestsFull = 10
+refusal_code Refusal.Declared = 11
+refusal_code Refusal.DeclaredHere = 12
+refusal_code Refusal.Unrelated = 13
+refusal_code Refusal.Begun = 17
+refusal_code Refusal.OwnFull = 18
+refusal_code Refusal.Defined = 19
+refusal_code Refusal.Late = 20
+
+-- an accepted call's number and the counts after it
+abbrev pub taken : ℕ → Counts → Accepted
+taken n c = record { number = n; counts = c }
+
+-- what refusing and accepting make of the counts
+abbrev pub refusal : ℕ → Counts → Reply
+refusal k c = record { code = k; number = 0; counts = c }
+
+abbrev pub acceptance : ℕ → Counts → Reply
+acceptance n c = record { code = 0; number = n; counts = c }
+
+-- the code, the number and the counts after a call that answers a, by the counts before it: a refused one leaves them
+abbrev pub reply_of : Counts → Result Accepted Refusal → Reply
+reply_of c (Ok a) = acceptance a.number a.counts
+reply_of c (Err e) = refusal (refusal_code e) c
 
 -- a refused call has its code and the number 0; an accepted one the code 0 and its number
 abbrev pub code_of : Defined → ℕ
@@ -48,13 +84,6 @@ pub record Showing (gl fl : List ℕ) (c : Counts) (t : State) : Type 0 where
 abbrev pub SomeState : List ℕ → List ℕ → Counts → Type 0
 SomeState gl fl c = (t : State) × Showing gl fl c t
 
--- what every kind promises: for each state that the cells gl and fl show, r answers the reply f, and gl' and fl' show what it leaves
-abbrev pub Answers : List ℕ → List ℕ → List ℕ → List ℕ → Counts → Reply → (Graph → Form → Defined) → Type 0
-Answers gl fl gl' fl' c r f = (t : State) → Showing gl fl c t → Replies gl' fl' r t.graph t.form (f t.graph t.form)
-
--- what refusing and accepting make of the counts
-abbrev pub refusal : ℕ → Counts → Reply
-refusal k c = record { code = k; number = 0; counts = c }
-
-abbrev pub acceptance : ℕ → Counts → Reply
-acceptance n c = record { code = 0; number = n; counts = c }
+-- what every kind promises: for each state that the cells gl and fl show, a answers the reply f, and gl' and fl' show what it leaves
+abbrev pub Answers : List ℕ → List ℕ → List ℕ → List ℕ → Counts → Result Accepted Refusal → (Graph → Form → Defined) → Type 0
+Answers gl fl gl' fl' c a f = (t : State) → Showing gl fl c t → Replies gl' fl' (reply_of c a) t.graph t.form (f t.graph t.form)

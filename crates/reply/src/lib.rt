@@ -1,17 +1,79 @@
-// What a call answers: its code, its number and the counts after it; and the checks that calls of several kinds have.
+// What a call answers: it is refused, for a reason that has a code, or accepted, with a number and the counts after it; and the checks that calls of several
+// kinds have.
 #![tactic(auto)]
 
-ghost use Rattle.std.specs.Prelude.{◌≡◌, false, ◌<◌};
+ghost use Rattle.std.specs.Prelude.{◌≡◌, ◌≤◌, ◌<◌, Ok, MatchResult};
 ghost use Rattle.entity.specs.Limits.{limits};
-ghost use Rattle.definition.specs.Form.{Graph, Form};
+ghost use Rattle.entity.specs.Types.{type_count};
 ghost use Rattle.definition.specs.Session.{no_block, no_var, no_branch};
 ghost use Rattle.graph.specs.Seen.{GraphWith, Seen};
-ghost use Rattle.reply.specs.Replies.{refusal, acceptance};
+ghost use Rattle.reply.specs.declared.Refusal.{Refusal};
+ghost use Rattle.reply.specs.Replies.{refusal_code, reply_of, taken};
+ghost use Rattle.reply.specs.Known.{Found, Lost};
 
-use entity::Block;
+use entity::{Block, Branch, Type, Value, Variable};
 use layout::Counts;
 
-// The answer's code and number, and the counts after the call.
+// Why a call is refused, in the order of the codes.
+#[derive(Clone, Copy, Debug, PartialEq, Eq)]
+pub enum Refusal {
+    UnknownKind,
+    Full,
+    Skips,
+    Absent,
+    OtherType,
+    Sealed,
+    Branched,
+    DestsFull,
+    Declared,
+    DeclaredHere,
+    Unrelated,
+    Begun,
+    OwnFull,
+    Defined,
+    Late,
+}
+
+impl Refusal {
+    // As docs/RULES.md numbers them.
+    pub fn code(self) -> u32
+        ensures { result ≡ refusal_code self }
+    {
+        match self {
+            Refusal::UnknownKind => 3,
+            Refusal::Full => 4,
+            Refusal::Skips => 5,
+            Refusal::Absent => 6,
+            Refusal::OtherType => 7,
+            Refusal::Sealed => 8,
+            Refusal::Branched => 9,
+            Refusal::DestsFull => 10,
+            Refusal::Declared => 11,
+            Refusal::DeclaredHere => 12,
+            Refusal::Unrelated => 13,
+            Refusal::Begun => 17,
+            Refusal::OwnFull => 18,
+            Refusal::Defined => 19,
+            Refusal::Late => 20,
+        }
+    }
+}
+
+// What an accepted call answers: its number, and the counts after it. A refused one changes no count, so its caller goes on with its own.
+#[derive(Clone, Copy)]
+pub struct Accepted {
+    pub number: u32,
+    pub counts: Counts,
+}
+
+// The answer of an accepted call.
+pub fn accept(number: u32, counts: Counts) -> Result<Accepted, Refusal>
+    ensures { result ≡ Ok (taken number counts) }
+{
+    Ok(Accepted { number, counts })
+}
+
+// What is written of a call, and the counts after it.
 #[derive(Clone, Copy)]
 pub struct Reply {
     pub code: u32,
@@ -19,83 +81,72 @@ pub struct Reply {
     pub counts: Counts,
 }
 
-// Codes, as docs/RULES.md numbers them.
-pub const FULL: u32 = 4;
-
-pub const SKIPS: u32 = 5;
-
-pub const ABSENT: u32 = 6;
-
-pub const OTHER_TYPE: u32 = 7;
-
-pub const SEALED: u32 = 8;
-
-pub const BRANCHED: u32 = 9;
-
-pub const DESTS_FULL: u32 = 10;
-
-pub const DECLARED: u32 = 11;
-
-pub const DECLARED_HERE: u32 = 12;
-
-pub const UNRELATED: u32 = 13;
-
-pub const BEGUN: u32 = 17;
-
-pub const OWN_FULL: u32 = 18;
-
-pub const DEFINED: u32 = 19;
-
-pub const LATE: u32 = 20;
-
-// A refused call has the number 0 and leaves the counts as they were.
-pub fn refuse(code: u32, c: Counts) -> Reply
-    ensures { result ≡ refusal code c }
-{
-    Reply {
-        code: code,
-        number: 0,
-        counts: c,
-    }
-}
-
-// Code 0 is for a call that was not refused.
-pub fn accept(number: u32, c: Counts) -> Reply
-    ensures { result ≡ acceptance number c }
-{
-    Reply {
-        code: 0,
-        number: number,
-        counts: c,
+impl Reply {
+    // Code 0 is for a call that was not refused. A refused one has the number 0 and leaves the counts as they were.
+    pub fn new(answer: Result<Accepted, Refusal>, before: Counts) -> Reply
+        ensures { result ≡ reply_of before answer }
+    {
+        match answer {
+            Ok(accepted) => Reply {
+                code: 0,
+                number: accepted.number,
+                counts: accepted.counts,
+            },
+            Err(refusal) => Reply {
+                code: refusal.code(),
+                number: 0,
+                counts: before,
+            },
+        }
     }
 }
 
 // Blocks are numbered from 0 without a gap, so those that are there are below their count.
-pub fn no_block(graph: &[u32], b: u32) -> bool
+pub fn known_block(graph: &[u32], b: u32) -> Result<Block, Refusal>
     requires { GraphWith (Seen graph.now) }
-    ensures b_lt_blocks { result ≡ false → b < limits.blocks }
-    ensures value { (g : Graph) → (s : Form) → Seen graph.now g → result ≡ no_block g s b }
+    ensures { MatchResult result (λ block. Found graph.now b limits.blocks block.0 no_block) (λ e. Lost graph.now b e no_block) }
 {
-    graph::block_count(graph) <= b
+    if graph::block_count(graph) <= b {
+        return Err(Refusal::Absent);
+    }
+    Ok(Block(b))
 }
 
 // So are variables.
-pub fn no_var(graph: &[u32], v: u32) -> bool
+pub fn known_var(graph: &[u32], v: u32) -> Result<Variable, Refusal>
     requires { GraphWith (Seen graph.now) }
-    ensures v_lt_variables { result ≡ false → v < limits.variables }
-    ensures value { (g : Graph) → (s : Form) → Seen graph.now g → result ≡ no_var g s v }
+    ensures { MatchResult result (λ var. Found graph.now v limits.variables var.0 no_var) (λ e. Lost graph.now v e no_var) }
 {
-    graph::variable_count(graph) <= v
+    if graph::variable_count(graph) <= v {
+        return Err(Refusal::Absent);
+    }
+    Ok(Variable(v))
 }
 
 // A branch bears its block's number.
-pub fn no_branch(graph: &[u32], p: u32) -> bool
+pub fn known_branch(graph: &[u32], p: u32) -> Result<Branch, Refusal>
     requires { GraphWith (Seen graph.now) }
-    ensures p_lt_blocks { result ≡ false → p < limits.blocks }
-    ensures value { (g : Graph) → (s : Form) → Seen graph.now g → result ≡ no_branch g s p }
+    ensures { MatchResult result (λ branch. Found graph.now p limits.blocks branch.0 no_branch) (λ e. Lost graph.now p e no_branch) }
 {
-    if no_block(graph, p) {
-        return true;
+    let block = known_block(graph, p)?;
+    if !graph::has_branch(graph, block) {
+        return Err(Refusal::Absent);
     }
-    !graph::has_branch(graph, Block(p))
+    Ok(Branch::from(block))
+}
+
+// Values are numbered without a gap too, and their count travels beside the cells.
+pub fn known_value(c: Counts, x: u32) -> Result<Value, Refusal>
+    ensures { MatchResult result (λ val. (val.0 ≡ x) × (val.0 < c.values)) (λ e. (e ≡ Refusal.Absent) × (c.values ≤ x)) }
+{
+    if c.values <= x {
+        return Err(Refusal::Absent);
+    }
+    Ok(Value(x))
+}
+
+pub fn known_type(n: u32) -> Result<Type, Refusal>
+    ensures { MatchResult result (λ ty. (ty.0 ≡ n) × (ty.0 < type_count)) (λ e. (e ≡ Refusal.Absent) × (type_count ≤ n)) }
+{
+    Type::from_number(n).ok_or(Refusal::Absent)
 }

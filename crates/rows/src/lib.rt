@@ -1,7 +1,7 @@
 // Rows of cells that hold a list: the count, the entries, zeros. `at` is the cell of the count.
 #![tactic(auto)]
 
-ghost use Rattle.std.specs.Prelude.{◌≡◌, ◌<◌, ltb, get_or};
+ghost use Rattle.std.specs.Prelude.{◌≡◌, ◌<◌, if◌then◌else◌, ltb, get_or};
 ghost use Rattle.layout.specs.Rows.{Readable, Pushable, pushed, swapped, seek, sift, wipe};
 
 // One entry more.
@@ -15,22 +15,18 @@ pub fn push(t: &mut [u32], at: usize, x: u32)
     t[at] = n + 1;
 }
 
-// The place of the first x, the count where there is none.
-pub fn find(t: &[u32], at: usize, x: u32) -> u32
+// The place of the first x.
+pub fn find(t: &[u32], at: usize, x: u32) -> Option<u32>
     requires { Readable t.now at }
-    ensures { result ≡ seek t.now at x (get_or t.now at 0) 0 }
+    ensures { let n = get_or t.now at 0 in let k = seek t.now at x n 0 in result ≡ (if ltb k n then Some k else None) }
 {
     let n = t[at];
-    let mut i: u32 = 0;
-    while i < n {
-        let k = i as usize;
-        let y = t[at + 1 + k];
-        if x == y {
-            return i;
+    for i in 0..n {
+        if t[at + 1 + i as usize] == x {
+            return Some(i);
         }
-        i += 1;
     }
-    i
+    None
 }
 
 // Is x in the row?
@@ -38,8 +34,8 @@ pub fn has(t: &[u32], at: usize, x: u32) -> bool
     requires { Readable t.now at }
     ensures { result ≡ ltb (seek t.now at x (get_or t.now at 0) 0) (get_or t.now at 0) }
 {
-    let n = t[at];
-    find(t, at, x) < n
+    let n = t[at] as usize;
+    t[at + 1..at + 1 + n].contains(&x)
 }
 
 // Entries equal to x leave the row; the others keep their order.
@@ -48,19 +44,16 @@ pub fn remove(t: &mut [u32], at: usize, x: u32)
     ensures { t.new ≡ sift at x (get_or t.old at 0) 0 0 t.old }
 {
     let n = t[at] as usize;
-    let mut i: usize = 0;
     let mut kept: u32 = 0;
-    while i < n {
+    for i in 0..n {
         let y = t[at + 1 + i];
         t[at + 1 + i] = 0;
         if y == x {
-            i += 1;
             continue;
         }
         let k = kept as usize;
         t[at + 1 + k] = y;
         kept += 1;
-        i += 1;
     }
     t[at] = kept;
 }
@@ -86,10 +79,5 @@ pub fn clear(t: &mut [u32], at: usize)
     ensures { t.new ≡ wipe at (get_or t.old at 0) 0 t.old }
 {
     let n = t[at] as usize;
-    let mut j: usize = 0;
-    while j < n {
-        t[at + 1 + j] = 0;
-        j += 1;
-    }
-    t[at] = 0;
+    t[at..at + 1 + n].fill(0);
 }

@@ -38,6 +38,6 @@ W values                    the values recorded for them
 O blocks                    the blocks in the order placed
 END                         of the list
 ",
-        program::LETTERS,
+        program::Show::Letters,
     );
 }

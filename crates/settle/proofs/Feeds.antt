@@ -164,9 +164,6 @@ module _ (gl l₀ wl : List ℕ) (c : Counts) (b : ℕ) where
   FeedingAll l k = (g : Graph) (s : Form) (ts : List Task) (rs : List ℕ) → CanFeedAll gl l₀ wl c b g s ts rs
       → Cells l (with_args s (feed_all g b (take k (g.preds b)) (take k (lasts (length (g.preds b)) rs)) s.args))
 
-  pub feed_all_start : FeedingAll l₀ 0
-  feed_all_start g s ts rs h = h.cells
-
   module _ (g : Graph) (s : Form) (ts : List Task) (rs : List ℕ) (h : CanFeedAll gl l₀ wl c b g s ts rs) where
     pub result_each : (n : ℕ) → n ≡ length (g.preds b) → CanTake wl c n ts rs
     result_each n e = rw e h.results

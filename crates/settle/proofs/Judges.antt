@@ -2,11 +2,10 @@
 -- Assumes nothing.
 use Prim.Native.Nat.{ℕ, ◌+◌, ◌≤◌, ◌<◌}
 use mathlib.Core.Path.{◌≡◌, refl, sym, ap, ◌∙◌}
-use mathlib.Core.Bool.{Bool, cond, ◌&&◌}
+use mathlib.Core.Bool.{Bool, true, false, cond, ◌&&◌}
 use mathlib.Core.List.{List, [], ◌∷◌, map}
 use native.Mathlib.Omega.{arith}
 use native.Mathlib.Numerals.{add-one}
-use borrow.Author.Tests.{eq-eqb, ne_eqb}
 use lib.Dec.{eqb}
 use lib.ListN.{length, get_or, drop, drop_of_length-le, length-reverse, take}
 use lib.Seq.{drop-cons, length-take-le}
@@ -30,11 +29,11 @@ judge_on Agreement.Nothing ls = judge ls
 judge_on (Agreement.One y) ls = judge (y.0 ∷ ls)
 judge_on Agreement.Many ls = Agreement.Many
 
-judge_same : (y : ℕ) (ls : List ℕ) → judge (y ∷ ls) ≡ judge (y ∷ y ∷ ls)
-judge_same y ls = ap (λ (z : Bool). cond (z && every (eqb y) ls) (Agreement.One (value y)) Agreement.Many) (sym (eq-eqb y y refl))
+judge_same : (y z : ℕ) (ls : List ℕ) → eqb y z ≡ true → judge (y ∷ ls) ≡ judge (y ∷ z ∷ ls)
+judge_same y z ls e = ap (λ (q : Bool). cond (q && every (eqb y) ls) (Agreement.One (value y)) Agreement.Many) (sym e)
 
-judge_other : (y z : ℕ) (ls : List ℕ) → (y ≡ z → ⊥) → Agreement.Many ≡ judge (y ∷ z ∷ ls)
-judge_other y z ls d = ap (λ (q : Bool). cond (q && every (eqb y) ls) (Agreement.One (value y)) Agreement.Many) (sym (ne_eqb y z d))
+judge_other : (y z : ℕ) (ls : List ℕ) → eqb y z ≡ false → Agreement.Many ≡ judge (y ∷ z ∷ ls)
+judge_other y z ls e = ap (λ (q : Bool). cond (q && every (eqb y) ls) (Agreement.One (value y)) Agreement.Many) (sym e)
 
 judge_done : (a : Agreement) → a ≡ judge_on a []
 judge_done Agreement.Nothing = refl
@@ -52,9 +51,6 @@ module _ (fl wl : List ℕ) (c : Counts) (n x : ℕ) where
   -- whatever the cells show
   abbrev pub Judging : Agreement → ℕ → Type 0
   Judging a i = (s : Form) (ts : List Task) (rs : List ℕ) → CanAgree fl wl c n s ts rs → judge_on a (left s rs i) ≡ judge (left s rs 0)
-
-  pub judge_start : Judging Agreement.Nothing 0
-  judge_start s ts rs h = refl
 
   module _ (i : ℕ) (lt : i < n) (r : ℕ) (R : (ts : List Task) (rs : List ℕ) → CanTake wl c n ts rs → r ≡ get_or (lasts n rs) i 0) where
     module _ (s : Form) (ts : List Task) (rs : List ℕ) (h : CanAgree fl wl c n s ts rs) where
@@ -74,21 +70,21 @@ module _ (fl wl : List ℕ) (c : Counts) (n x : ℕ) where
           let e = here s ts rs h y.0 (Y s (result_resolves s ts rs h)) ∙ ap (λ (z : Bool). cond z (left s rs (i + 1)) (y.0 ∷ left s rs (i + 1))) q in
           ap (judge_on a) (sym e) ∙ J s ts rs h
 
-      pub judge_skip : y.0 ≡ x → Judging a (i + 1)
-      judge_skip q = rest (eq-eqb y.0 x q)
+      pub judge_skip : eqb y.0 x ≡ true → Judging a (i + 1)
+      judge_skip = rest
 
-      module _ (d : y.0 ≡ x → ⊥) where
+      module _ (d : eqb y.0 x ≡ false) where
         counts : (s : Form) (ts : List Task) (rs : List ℕ) → CanAgree fl wl c n s ts rs → judge_on a (y.0 ∷ left s rs (i + 1)) ≡ judge (left s rs 0)
-        counts = rest (ne_eqb y.0 x d)
+        counts = rest d
 
         pub judge_first : a ≡ Agreement.Nothing → Judging (Agreement.One y) (i + 1)
         judge_first e s ts rs h = rw e at (counts s ts rs h)
 
-        pub judge_again : (b : Value) → a ≡ Agreement.One b → y.0 ≡ b.0 → Judging (Agreement.One b) (i + 1)
-        judge_again b e same s ts rs h = judge_same b.0 (left s rs (i + 1)) ∙ (rw (e, same) at (counts s ts rs h))
+        pub judge_again : (b : Value) → a ≡ Agreement.One b → eqb b.0 y.0 ≡ true → Judging (Agreement.One b) (i + 1)
+        judge_again b e same s ts rs h = judge_same b.0 y.0 (left s rs (i + 1)) same ∙ (rw e at (counts s ts rs h))
 
-        pub judge_many : (b : Value) → a ≡ Agreement.One b → (y.0 ≡ b.0 → ⊥) → Judged Agreement.Many
-        judge_many b e differ s ts rs h = judge_other b.0 y.0 (left s rs (i + 1)) (λ p. differ (sym p)) ∙ (rw e at (counts s ts rs h))
+        pub judge_many : (b : Value) → a ≡ Agreement.One b → eqb b.0 y.0 ≡ false → Judged Agreement.Many
+        judge_many b e differ s ts rs h = judge_other b.0 y.0 (left s rs (i + 1)) differ ∙ (rw e at (counts s ts rs h))
 
   pub judge_still : (a : Agreement) (i : ℕ) → a ≡ Agreement.Many → Judging a i → Judged Agreement.Many
   judge_still a i e J s ts rs h = rw e at (J s ts rs h)

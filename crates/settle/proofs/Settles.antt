@@ -15,9 +15,8 @@ use Rattle.entity.specs.Described.{type_room}
 use Rattle.entity.specs.Types.{step_of, type_count}
 use Rattle.entity.proofs.Laws.{step_plain}
 use Rattle.definition.specs.Base.{every, without}
-use Rattle.definition.specs.Form.{Graph, Form, Sort, nought, with_args}
+use Rattle.definition.specs.Form.{Graph, Form, nought, with_args}
 use Rattle.definition.specs.Read.{Got, resolve, settle, settle_left, feed_all, set_params, alias, make, log_zero, place_block, emit_step, emit_zero}
-use Rattle.definition.specs.Tables.{sort_number}
 use Rattle.meaning.specs.Path.{In}
 use Rattle.meaning.specs.Machine.{Task}
 use Rattle.layout.specs.declared.Counts.{Counts}
@@ -28,7 +27,6 @@ use Rattle.graph.specs.Seen.{Seen}
 use Rattle.form.specs.Can.{Cells, CanMake, CanLog, CanPlace, HasValue, HasParams}
 use Rattle.work.specs.Work.{CanTake, lasts}
 use Rattle.settle.specs.declared.Agreement.{Agreement}
-use Rattle.settle.specs.declared.Finished.{Finished}
 use Rattle.settle.specs.Settle.{CanAgree, CanEmit, CanZero, Zeroed, CanAlias, CanFeedAll, CanSettle, Settled}
 use Rattle.settle.specs.Settle.{value, judge, zeroed}
 
@@ -50,13 +48,10 @@ module _ (fl : List ℕ) (c : Counts) (b : ℕ) (s : Form) (h : CanEmit fl c b s
     unrecorded = h.unrecorded s.next (omega arith);
   }
 
-  pub step_made : (ty t m : ℕ) (fl₁ : List ℕ) (d : Counts) → some t ≡ step_of ty → d ≡ more c
-      → ((s : Form) → CanMake fl c s → (k : Sort) → m ≡ sort_number k → Shows fl₁ (more c) (make k t b s)) → m ≡ sort_number nought
+  pub step_made : (ty t : ℕ) (fl₁ : List ℕ) (d : Counts) → some t ≡ step_of ty → d ≡ more c
+      → ((s : Form) → CanMake fl c s → Shows fl₁ (more c) (make nought t b s))
       → Shows fl₁ d (emit_step (step_of ty) b s)
-  step_made ty t m fl₁ d e k M z = rw (sym e, k) (M s step_make nought z)
-
-  pub no_step : (ty : ℕ) → none ≡ step_of ty → Shows fl c (emit_step (step_of ty) b s)
-  no_step ty e = rw (sym e) h.shows
+  step_made ty t fl₁ d e k M = rw (sym e, k) (M s step_make)
 
   -- after it there is room for the zero
   pub whole_make : (o : Option ℕ) (fl₁ : List ℕ) (d : Counts) → Shows fl₁ d (emit_step o b s) → CanMake fl₁ d (emit_step o b s)
@@ -102,15 +97,15 @@ module _ (fl : List ℕ) (c : Counts) (x b : ℕ) (s : Form) (h : CanZero fl c x
         pub zero_make : CanMake fl₃ d (emit_step (step_of ty) b (log_zero c.call b (place_block b s)))
         zero_make = whole_make fl₂ c b logged zero_emit (step_of ty) fl₃ d (D.1 logged zero_emit)
 
-        pub zero_made : (fl₄ : List ℕ) (m : ℕ) (e : Counts) → ((s : Form) → HasValue fl x s → (s.info x).type < type_count → ty ≡ (s.info x).type)
-            → (e ≡ more d) × ((s : Form) → CanMake fl₃ d s → (k : Sort) → m ≡ sort_number k → Shows fl₄ (more d) (make k ty b s)) → m ≡ sort_number nought
-            → Zeroed fl₄ c (record { 0 = record { 0 = d.values }; 1 = e }) x b s
-        zero_made fl₄ m e T M z =
+        pub zero_made : (fl₄ : List ℕ) (e : Counts) → ((s : Form) → HasValue fl x s → (s.info x).type < type_count → ty ≡ (s.info x).type)
+            → (e ≡ more d) × ((s : Form) → CanMake fl₃ d s → Shows fl₄ (more d) (make nought ty b s))
+            → Zeroed fl₄ c (value d.values, e) x b s
+        zero_made fl₄ e T M =
             let is : ty ≡ (s.info x).type = T s zero_type h.typed in
             record {
               val = (D.1 logged zero_emit).next ∙ ap (λ (t : ℕ). (emit_step (step_of t) b logged).next) is;
               counts = M.0 ∙ ap more D.0 ∙ ap (λ (k : Counts). with_values k.values c) (sym (M.0 ∙ ap more D.0));
-              shows = rw M.0 (subst (λ (t : ℕ). Shows fl₄ (more d) (emit_zero t b logged).1) is (M.1 _ zero_make nought z));
+              shows = rw M.0 (subst (λ (t : ℕ). Shows fl₄ (more d) (emit_zero t b logged).1) is (M.1 _ zero_make));
             }
 
 -- a zero's values are one or two; no parameter comes or goes with them
@@ -156,10 +151,6 @@ module _ (gl fl wl : List ℕ) (c : Counts) (x b : ℕ) (g : Graph) (s : Form) (
     pub results_there : CanTake wl c n ts rs
     results_there = record { stacks = h.stacks; enough = omega (arith, count, h.settles.enough); height = h.settles.height }
 
-    -- they can leave
-    pub enough : n ≤ c.results
-    enough = omega (arith, results_there.enough, h.stacks.results)
-
     pub can_agree : CanAgree fl wl c n s ts rs
     can_agree = record {
       shows = h.shows;
@@ -178,18 +169,13 @@ module _ (gl fl wl : List ℕ) (c : Counts) (x b : ℕ) (g : Graph) (s : Form) (
     place = h.settles.place;
   }
 
-  -- also after a zero was made
-  pub enough_still : (n : ℕ) → ((g : Graph) → Seen gl g → n ≡ length (g.preds b)) → (l : List ℕ) (z : Finished)
-      → ((s : Form) → CanZero fl c x b s → Zeroed l c z x b s) → n ≤ z.1.results
-  enough_still n N l z Z = rw (ap (λ (k : Counts). k.results) (Z s can_zero).counts) (enough n N)
-
   pub can_alias : CanAlias fl x b s
   can_alias = record {
     val = record { cells = h.shows.cells; there = h.settles.there; room = omega (arith, h.settles.room) };
     params = record { cells = h.shows.cells; known = block_known; few = h.settles.params };
   }
 
-  module _ (l : List ℕ) (r : Finished) (Z : (s : Form) → CanZero fl c x b s → Zeroed l c r x b s) where
+  module _ (l : List ℕ) (r : Value × Counts) (Z : (s : Form) → CanZero fl c x b s → Zeroed l c r x b s) where
     pub can_alias_zero : CanAlias l x b (zeroed c.call x b s).1
     can_alias_zero =
         let cells = (Z s can_zero).shows.cells in
@@ -219,7 +205,7 @@ module _ (gl fl wl : List ℕ) (c : Counts) (x b : ℕ) (g : Graph) (s : Form) (
         judged g b x results s (without x (map (resolve s) results))
         ∙ ap (outcome g b x results s) (sym (J s ts rs (can_agree n N) ∙ ap (λ (m : ℕ). judge (without x (map (resolve s) (lasts m rs)))) (count n N)))
 
-    settled : (q : Got) → outcome g b x results s a ≡ q → (fl₁ : List ℕ) (d : Counts) → d.call ≡ c.call → (r : Finished) → r.0.0 ≡ q.0 → r.1 ≡ results_less n d
+    settled : (q : Got) → outcome g b x results s a ≡ q → (fl₁ : List ℕ) (d : Counts) → d.call ≡ c.call → (r : Value × Counts) → r.0.0 ≡ q.0 → r.1 ≡ results_less n d
         → Shows fl₁ d q.1 → Stacks wl d ts rs → Settled fl₁ wl c.call r x b g s ts rs
     settled q e fl₁ d k r v f shows stacks =
         let is : settle g b x results s ≡ q = decided ∙ e in
@@ -232,7 +218,7 @@ module _ (gl fl wl : List ℕ) (c : Counts) (x b : ℕ) (g : Graph) (s : Form) (
           };
         }
 
-    pub settled_zero : a ≡ Agreement.Nothing → (fl₁ fl₂ : List ℕ) (z r : Finished) → ((s : Form) → CanZero fl c x b s → Zeroed fl₁ c z x b s)
+    pub settled_zero : a ≡ Agreement.Nothing → (fl₁ fl₂ : List ℕ) (z r : Value × Counts) → ((s : Form) → CanZero fl c x b s → Zeroed fl₁ c z x b s)
         → ((s : Form) → CanAlias fl₁ x b s → Cells fl₂ (alias b x z.0.0 s)) → r.0 ≡ z.0 → r.1 ≡ results_less n z.1
         → Settled fl₂ wl c.call r x b g s ts rs
     unfolding outcome
@@ -250,13 +236,13 @@ module _ (gl fl wl : List ℕ) (c : Counts) (x b : ℕ) (g : Graph) (s : Form) (
           results = ap (λ (i : Counts). i.results) k.counts ∙ h.stacks.results;
         }
 
-    pub settled_one : (y : Value) → a ≡ Agreement.One y → (fl₁ : List ℕ) (r : Finished) → r.0.0 ≡ y.0
+    pub settled_one : (y : Value) → a ≡ Agreement.One y → (fl₁ : List ℕ) (r : Value × Counts) → r.0.0 ≡ y.0
         → ((s : Form) → CanAlias fl x b s → Cells fl₁ (alias b x y.0 s)) → r.1 ≡ results_less n c → Settled fl₁ wl c.call r x b g s ts rs
     unfolding outcome
     settled_one y e fl₁ r v A D =
         settled (y.0, alias b x y.0 s) (ap (outcome g b x results s) e) fl₁ c refl r v D record { cells = A s can_alias; next = h.shows.next } h.stacks
 
-    pub settled_many : a ≡ Agreement.Many → (fl₁ : List ℕ) (r : Finished) → r.0.0 ≡ x
+    pub settled_many : a ≡ Agreement.Many → (fl₁ : List ℕ) (r : Value × Counts) → r.0.0 ≡ x
         → ((g : Graph) (s : Form) (ts : List Task) (rs : List ℕ) → CanFeedAll gl fl wl c b g s ts rs
         → Cells fl₁ (with_args s (feed_all g b (g.preds b) (lasts (length (g.preds b)) rs) s.args))) → r.1 ≡ results_less n c → Settled fl₁ wl c.call r x b g s ts rs
     unfolding outcome

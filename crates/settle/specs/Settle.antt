@@ -17,7 +17,6 @@ use Rattle.graph.specs.Seen.{Seen}
 use Rattle.form.specs.Can.{Cells, HasValue, HasParams}
 use Rattle.work.specs.Work.{CanTake, lasts}
 use Rattle.settle.specs.declared.Agreement.{Agreement}
-use Rattle.settle.specs.declared.Finished.{Finished}
 
 -- ---- do the results agree?
 
@@ -70,7 +69,7 @@ abbrev pub zeroed : ℕ → ℕ → ℕ → Form → Got
 zeroed n x b s = emit_zero (s.info x).type b (log_zero n b (place_block b s))
 
 -- the zero is the definition's, and so is what the cells show; the counts are those before, but for the values
-pub record Zeroed (fl : List ℕ) (c : Counts) (r : Finished) (x b : ℕ) (s : Form) : Type 0 where
+pub record Zeroed (fl : List ℕ) (c : Counts) (r : Value × Counts) (x b : ℕ) (s : Form) : Type 0 where
   pub val : r.0.0 ≡ (zeroed c.call x b s).0
   pub counts : r.1 ≡ with_values r.1.values c
   pub shows : Shows fl r.1 (zeroed c.call x b s).1
@@ -132,7 +131,7 @@ pub record CanSettle (gl fl wl : List ℕ) (c : Counts) (x b : ℕ) (g : Graph) 
   pub settles : Settles g x b s rs
 
 -- the answer is the definition's, and so is what the cells show
-pub record Settled (fl wl : List ℕ) (n : ℕ) (r : Finished) (x b : ℕ) (g : Graph) (s : Form) (ts : List Task) (rs : List ℕ) : Type 0 where
+pub record Settled (fl wl : List ℕ) (n : ℕ) (r : Value × Counts) (x b : ℕ) (g : Graph) (s : Form) (ts : List Task) (rs : List ℕ) : Type 0 where
   pub call : r.1.call ≡ n
   pub val : r.0.0 ≡ (settle g b x (lasts (length (g.preds b)) rs) s).0
   pub shown : Shown fl wl r.1 (conf ts (drop (length (g.preds b)) rs) (settle g b x (lasts (length (g.preds b)) rs) s).1)

@@ -1,4 +1,5 @@
 // Settling a parameter by the results of its block's predecessors: a zero, another name of the one value that they agree on, or arguments.
+// The three tables are lent and the counts go by value, each a parameter of its own: a rule of the project, for the original's `&mut self`.
 #![tactic(auto)]
 
 ghost use Rattle.std.specs.Prelude.{◌≡◌, List, map, ℕ, ◌<◌, length};
@@ -15,15 +16,11 @@ ghost use Rattle.work.specs.Work.{lasts};
 ghost use Rattle.settle.specs.Settle.{SomeWith, BothWith, AllWith, CanResolve, CanAgree, judge, CanFeedBranch, CanFeedAll};
 ghost use Rattle.settle.specs.Settle.{CanEmit, CanZero, Zeroed, CanAlias, CanSettle, Settled};
 
-use entity::{Block, Branch, Found, Type, Value};
+use entity::{Block, Branch, Sort, Type, Value};
 use layout::{Counts, TARGET};
 
-// The value that a lookup ends in, with the counts after it.
-#[derive(Clone, Copy)]
-pub struct Finished(pub Value, pub Counts);
-
 // What the predecessors' results say: nothing but the sentinel, one value, or more.
-#[derive(Clone, Copy)]
+#[derive(Clone, Copy, Debug, PartialEq, Eq)]
 pub enum Agreement {
     Nothing,
     One(Value),
@@ -47,26 +44,16 @@ fn agree(form: &[u32], work: &[u32], c: Counts, n: u32, sentinel: Value) -> Agre
         → result ≡ judge (without sentinel.0 (map (resolve s) (lasts n rs))) }
 {
     let mut verdict = Agreement::Nothing;
-    let mut i: u32 = 0;
-    while i < n {
+    for i in 0..n {
         let r = work::result(work, c, n, i);
         let y = resolve_aliases(form, c, r);
-        i += 1;
-        if y.0 == sentinel.0 {
+        if y == sentinel {
             continue;
         }
         match verdict {
-            Agreement::Nothing => {
-                verdict = Agreement::One(y);
-            }
-            Agreement::One(val) => {
-                if y.0 != val.0 {
-                    return Agreement::Many;
-                }
-            }
-            Agreement::Many => {
-                return Agreement::Many;
-            }
+            Agreement::Nothing => verdict = Agreement::One(y),
+            Agreement::One(val) if val == y => {}
+            _ => return Agreement::Many,
         }
     }
     verdict
@@ -79,15 +66,11 @@ fn append_argument(graph: &[u32], form: &mut [u32], branch: Branch, dest: Block,
         → Cells form.new (with_args s (feed branch.0 dest.0 val.0 (g.dests branch.0) s.args)) }
 {
     let n = graph::dest_count(graph, branch);
-    let mut i: u32 = 0;
-    while i < n {
+    for i in 0..n {
         let d = graph::dest(graph, branch, i);
-        if d.0 != dest.0 {
-            i += 1;
-            continue;
+        if d == dest {
+            form::append_argument(form, branch, i, val);
         }
-        form::append_argument(form, branch, i, val);
-        i += 1;
     }
 }
 
@@ -99,12 +82,10 @@ fn append_arguments(graph: &[u32], form: &mut [u32], work: &[u32], c: Counts, de
         → Cells form.new (with_args s (feed_all g dest.0 (g.preds dest.0) (lasts (length (g.preds dest.0)) rs) s.args)) }
 {
     let n = graph::predecessor_count(graph, dest);
-    let mut i: u32 = 0;
-    while i < n {
+    for i in 0..n {
         let p = graph::predecessor(graph, dest, i);
         let r = work::result(work, c, n, i);
         append_argument(graph, form, p, dest, r);
-        i += 1;
     }
 }
 
@@ -114,15 +95,14 @@ fn emit_step(form: &mut [u32], c: Counts, ty: u32, dest: Block) -> Counts
     ensures { (result ≡ with_values result.values c)
         × ((s : Form) → CanEmit form.old c dest.0 s → Shows form.new result (emit_step (step_of ty) dest.0 s)) }
 {
-    let step = Type(ty).step();
-    match step {
-        Found::Is(first) => form::make(form, c, form::ZERO, first.0, dest),
-        Found::Nothing => c,
+    match Type(ty).step() {
+        Some(first) => form::make(form, c, Sort::Zero, first.0, dest),
+        None => c,
     }
 }
 
 // A zero of the sentinel's type in the block, which is placed and logged for it: once, however many steps it takes.
-fn emit_zero(form: &mut [u32], c: Counts, sentinel: Value, dest: Block) -> Finished
+fn emit_zero(form: &mut [u32], c: Counts, sentinel: Value, dest: Block) -> (Value, Counts)
     requires { Ex (CanZero form.old c sentinel.0 dest.0) }
     ensures { (s : Form) → CanZero form.old c sentinel.0 dest.0 s
         → Zeroed form.new c result sentinel.0 dest.0 s }
@@ -132,8 +112,8 @@ fn emit_zero(form: &mut [u32], c: Counts, sentinel: Value, dest: Block) -> Finis
     form::log_zero(form, c, dest);
     let d = emit_step(form, c, ty, dest);
     let zero = Value(d.values);
-    let more = form::make(form, d, form::ZERO, ty, dest);
-    Finished(zero, more)
+    let more = form::make(form, d, Sort::Zero, ty, dest);
+    (zero, more)
 }
 
 // The parameter leaves its block and becomes another name of the value. What records it or has taken it keeps it.
@@ -155,32 +135,26 @@ pub fn finish_predecessors_lookup(
     c: Counts,
     sentinel: Value,
     dest: Block,
-) -> Finished
+) -> (Value, Counts)
     requires { AllWith (CanSettle graph.now form.old work.now c sentinel.0 dest.0) }
     ensures { (g : Graph) → (s : Form) → (ts : List Task) → (rs : List ℕ)
         → CanSettle graph.now form.old work.now c sentinel.0 dest.0 g s ts rs
         → Settled form.new work.now c.call result sentinel.0 dest.0 g s ts rs }
 {
     let n = graph::predecessor_count(graph, dest);
-    let verdict = agree(form, work, c, n, sentinel);
-    match verdict {
+    match agree(form, work, c, n, sentinel) {
         Agreement::Nothing => {
-            let z = emit_zero(form, c, sentinel, dest);
-            let zero = z.0;
-            let d = z.1;
+            let (zero, d) = emit_zero(form, c, sentinel, dest);
             replace_param(form, dest, sentinel, zero);
-            let e = d.pop_results(n);
-            Finished(zero, e)
+            (zero, d.pop_results(n))
         }
         Agreement::One(val) => {
             replace_param(form, dest, sentinel, val);
-            let e = c.pop_results(n);
-            Finished(val, e)
+            (val, c.pop_results(n))
         }
         Agreement::Many => {
             append_arguments(graph, form, work, c, dest);
-            let e = c.pop_results(n);
-            Finished(sentinel, e)
+            (sentinel, c.pop_results(n))
         }
     }
 }

@@ -32,7 +32,6 @@ use Rattle.graph.specs.Seen.{preds_start}
 use Rattle.graph.proofs.Cells.{blocks_cell, preds_row}
 use Rattle.form.proofs.Variables.{definition_is}
 use Rattle.work.specs.Work.{CanTake, lasts}
-use Rattle.settle.specs.declared.Finished.{Finished}
 use Rattle.ssa.specs.Run.{UnderWay, CanRun, Ran}
 
 -- ---- what is left, read off the cells: each block without a definition could still schedule a call for each predecessor, and one to settle
@@ -136,7 +135,7 @@ module _ {gl fl₀ wl₀ : List ℕ} {c₀ : Counts} {v ty : ℕ} {fl wl : List 
       one_held = omega (arith, ended.work.results)
 
       pub ran : {val : Value} → ((ts : List Task) → (rs : List ℕ) → CanTake wl c 1 ts rs → val.0 ≡ get_or (lasts 1 rs) 0 0)
-          → (r : Finished) → r.0.0 ≡ val.0 → r.1 ≡ results_less 1 c → Ran fl wl c₀.call r x s
+          → (r : Value × Counts) → r.0.0 ≡ val.0 → r.1 ≡ results_less 1 c → Ran fl wl c₀.call r x s
       ran is r ev ec = record {
         call = ap (λ (n : Counts). n.call) ec ∙ here.call ∙ sym h.under.call;
         val = ev ∙ is [] (x ∷ []) take_can;

@@ -8,9 +8,8 @@ use mathlib.Core.List.{List, [], ◌∷◌, ◌++◌}
 use native.Mathlib.Nat.{le_trans}
 use native.Mathlib.Numerals.{add-one}
 use native.Mathlib.Omega.{arith}
-use lib.ListN.{length, get_or, take, drop, length-drop, get_or-map}
+use lib.ListN.{length, get_or, take, drop, length-drop, length-map, get_or-map}
 use lib.Seq.{split_at, take-suc, take_all}
-use Rattle.entity.specs.Limits.{limits}
 use Rattle.definition.specs.Base.{put, up_from}
 use Rattle.definition.specs.Form.{Graph, Form}
 use Rattle.definition.specs.Read.{fill, read, depth, set_pending, settle_pending}
@@ -18,14 +17,14 @@ use Rattle.definition.specs.Session.{mark_sealed, seal_form, seal_each}
 use Rattle.meaning.specs.Machine.{conf}
 use Rattle.meaning.proofs.Inv.{frame, parts}
 use Rattle.meaning.proofs.Lists.{snds, snds_length}
-use Rattle.meaning.proofs.Maps.{put_same, false_true}
+use Rattle.meaning.proofs.Maps.{put_same}
 use Rattle.meaning.proofs.Mid.{Rest}
 use Rattle.meaning.proofs.Rooms.{rooms_of}
 use Rattle.meaning.proofs.Sealing.{idle}
 use Rattle.meaning.proofs.Steady.{Steady, steady_rooms, steady_seal, sound_then, bounds_then, seal_rests}
 use Rattle.layout.specs.declared.Counts.{Counts}
 use Rattle.layout.specs.Layout.{Graphs, Shown}
-use Rattle.graph.specs.Seen.{Seen, Shown as ShownGraph}
+use Rattle.graph.specs.Seen.{Seen}
 use Rattle.form.specs.Can.{HasPending, Taken, Lists, NextParam}
 use Rattle.ssa.specs.Use.{AtRest, CanFill, HasFilled, CanSeal, HasSealed, Marked}
 use Rattle.ssa.proofs.Uses.{seen_of}
@@ -40,14 +39,15 @@ settle_more g b (w ∷ us) ws s = settle_more g b us ws (fill (read (depth g) g 
 abbrev pub settled : ℕ → Graph → Form → ℕ → Form
 settled b g s i = settle_pending (mark_sealed g b) b (take i (s.pending b)) (set_pending b [] s)
 
--- The list has the variables of all n, in order, and as many as `left` are left.
-pub record Settling (gl fl wl list : List ℕ) (c : Counts) (b n left : ℕ) (g : Graph) (s : Form) : Type 0 where
+-- The list has the variables of all n, in order, and the first k of them are settled.
+pub record Settling (gl fl wl list : List ℕ) (c : Counts) (b n k : ℕ) (g : Graph) (s : Form) : Type 0 where
   pub graph : Graphs gl c (mark_sealed g b)
-  pub shown : Shown fl wl c (conf [] [] (settled b g s (n - left)))
+  pub shown : Shown fl wl c (conf [] [] (settled b g s k))
   pub steady : Steady g s
   pub known : b < g.blocks
   pub unsealed : g.sealed b ≡ false
-  pub lists : Lists list b n s
+  pub whole : length list ≡ n
+  pub lists : Lists list b s
 
 module _ {gl fl wl : List ℕ} {c : Counts} {b : ℕ} {g : Graph} {s : Form} (h : Marked gl fl wl c b g s) where
   pub pending_can : HasPending fl b s
@@ -57,59 +57,60 @@ module _ {gl fl wl : List ℕ} {c : Counts} {b : ℕ} {g : Graph} {s : Form} (h 
     few = (steady_rooms g s h.steady).waits b;
   }
 
-  pub settling_all : {fl₁ list : List ℕ} {n : ℕ} → Taken fl₁ list b n s → Settling gl fl₁ wl list c b n n g s
-  settling_all {fl₁} {list} {n} t =
-      let none : 0 ≡ n - n = omega arith in
-      record {
-        graph = h.graph;
-        shown = subst (λ (i : ℕ). Shown fl₁ wl c (conf [] [] (settled b g s i))) none
-            (record { form = record { cells = t.cells; next = h.shown.form.next }; work = h.shown.work });
-        steady = h.steady;
-        known = h.known;
-        unsealed = h.unsealed;
-        lists = t.lists;
-      }
+  pub settling_all : {fl₁ list : List ℕ} {n : ℕ} → length list ≡ n → Taken fl₁ list b s → Settling gl fl₁ wl list c b n 0 g s
+  settling_all long t = record {
+    graph = h.graph;
+    shown = record { form = record { cells = t.cells; next = h.shown.form.next }; work = h.shown.work };
+    steady = h.steady;
+    known = h.known;
+    unsealed = h.unsealed;
+    whole = long;
+    lists = t.lists;
+  }
 
-module _ {gl fl wl list : List ℕ} {c : Counts} {b n left : ℕ} {g : Graph} {s : Form} (h : Settling gl fl wl list c b n left g s) where
-  module _ (low : left ≤ n) (more : 0 < left) where
+module _ {gl fl wl list : List ℕ} {c : Counts} {b n k : ℕ} {g : Graph} {s : Form} (h : Settling gl fl wl list c b n k g s) where
+  count_is : n ≡ length (s.pending b)
+  count_is = sym h.whole ∙ ap length h.lists ∙ length-map (s.pending b) (λ w. w.0)
+
+  module _ (more : k < length list) where
     abbrev w : ℕ × ℕ
-    w = get_or (s.pending b) (n - left) (0, 0)
+    w = get_or (s.pending b) k (0, 0)
 
     abbrev ws : List (ℕ × ℕ)
-    ws = drop (suc (n - left)) (s.pending b)
+    ws = drop (suc k) (s.pending b)
 
-    within : n - left < length (s.pending b)
-    within = omega (arith, h.lists.count)
+    within : k < length (s.pending b)
+    within = omega (arith, count_is, h.whole)
 
-    rests : Rest (mark_sealed g b) (put b (w ∷ ws) idle) (suc (length ws)) (settled b g s (n - left))
-    rests = seal_rests g s h.steady b h.known h.unsealed (take (n - left) (s.pending b)) ws w (split_at (s.pending b) (n - left) (0, 0) within)
+    rests : Rest (mark_sealed g b) (put b (w ∷ ws) idle) (suc (length ws)) (settled b g s k)
+    rests = seal_rests g s h.steady b h.known h.unsealed (take k (s.pending b)) ws w (split_at (s.pending b) k (0, 0) within)
 
     sealed_now : (mark_sealed g b).sealed b ≡ true
     sealed_now = put_same b true g.sealed
 
     -- those before it are settled, and those after it are the last of the block's parameters
-    pub next_param : NextParam fl b left (get_or (s.pending b) (n - left) (0, 0)).1 (settled b g s (n - left))
+    pub next_param : NextParam fl b (n - k) (get_or (s.pending b) k (0, 0)).1 (settled b g s k)
     next_param = record {
       params = record {
         cells = h.shown.form.cells;
         known = le_trans h.known h.steady.bounds.few;
         few = (rooms_of (mark_sealed g b) (sound_then g s h.steady b h.known h.unsealed) (bounds_then g s h.steady b h.known h.unsealed)
-            (put b (w ∷ ws) idle) (suc (length ws)) (settled b g s (n - left)) rests).params b;
+            (put b (w ∷ ws) idle) (suc (length ws)) (settled b g s k) rests).params b;
       };
       before = rests.caller.params b ++ rests.kp b;
       after = snds ws;
-      split = parts (mark_sealed g b) (frame ⊥ rests.caller) (settled b g s (n - left)) rests.kp (put b (w ∷ ws) idle) rests.inv w.0 b w.1 ws sealed_now (put_same b (w ∷ ws) idle);
-      count = omega (arith, h.lists.count, snds_length ws, length-drop (suc (n - left)) (s.pending b));
+      split = parts (mark_sealed g b) (frame ⊥ rests.caller) (settled b g s k) rests.kp (put b (w ∷ ws) idle) rests.inv w.0 b w.1 ws sealed_now (put_same b (w ∷ ws) idle);
+      count = omega (arith, within, count_is, snds_length ws, length-drop (suc k) (s.pending b));
     }
 
-    module _ {v x : ℕ} (ev : v ≡ get_or list (n - left) 0) (ex : (y : ℕ) → (t : Form) → NextParam fl b left y t → x ≡ y) where
+    module _ {v x : ℕ} (ev : v ≡ get_or list k 0) (ex : (y : ℕ) → (t : Form) → NextParam fl b (n - k) y t → x ≡ y) where
       head_is : w ≡ (v, x)
       head_is =
-          let var_is : v ≡ w.0 = ev ∙ h.lists.at (n - left) (omega arith) ∙ get_or-map (λ (u : ℕ × ℕ). u.0) (s.pending b) (n - left) (0, 0) in
-          let param_is : x ≡ w.1 = ex w.1 (settled b g s (n - left)) next_param in
+          let var_is : v ≡ w.0 = ev ∙ ap (λ (xs : List ℕ). get_or xs k 0) h.lists ∙ get_or-map (λ (u : ℕ × ℕ). u.0) (s.pending b) k (0, 0) in
+          let param_is : x ≡ w.1 = ex w.1 (settled b g s k) next_param in
           ap {B = ℕ × ℕ} (λ (y : ℕ). (y, w.1)) (sym var_is) ∙ ap {B = ℕ × ℕ} (λ (y : ℕ). (v, y)) (sym param_is)
 
-      pub fill_can : CanFill gl fl wl c v x b (mark_sealed g b) (settled b g s (n - left))
+      pub fill_can : CanFill gl fl wl c v x b (mark_sealed g b) (settled b g s k)
       fill_can = record {
         seen = record {
           cells = h.graph.cells;
@@ -120,65 +121,38 @@ module _ {gl fl wl list : List ℕ} {c : Counts} {b n left : ℕ} {g : Graph} {s
         shown = h.shown;
         sealed = sealed_now;
         others = ws;
-        rest = subst (λ (u : ℕ × ℕ). Rest (mark_sealed g b) (put b (u ∷ ws) idle) (suc (length ws)) (settled b g s (n - left))) head_is rests;
+        rest = subst (λ (u : ℕ × ℕ). Rest (mark_sealed g b) (put b (u ∷ ws) idle) (suc (length ws)) (settled b g s k)) head_is rests;
       }
 
-      one_more : (fill (read (depth (mark_sealed g b)) (mark_sealed g b) v) (mark_sealed g b) b x (settled b g s (n - left))).1 ≡ settled b g s (n - (left - 1))
+      one_more : (fill (read (depth (mark_sealed g b)) (mark_sealed g b) v) (mark_sealed g b) b x (settled b g s k)).1 ≡ settled b g s (suc k)
       one_more =
           let g' = mark_sealed g b in
-          let next : n - (left - 1) ≡ suc (n - left) = omega arith in
-          let one : take (n - (left - 1)) (s.pending b) ≡ take (n - left) (s.pending b) ++ w ∷ [] =
-          ap (λ (k : ℕ). take k (s.pending b)) next ∙ take-suc (s.pending b) (n - left) (0, 0) within in
-          ap (λ (u : ℕ × ℕ). (fill (read (depth g') g' u.0) g' b u.1 (settled b g s (n - left))).1) (sym head_is)
-          ∙ sym (ap (λ (us : List (ℕ × ℕ)). settle_pending g' b us (set_pending b [] s)) one ∙ settle_more g' b (take (n - left) (s.pending b)) (w ∷ []) (set_pending b [] s))
+          let one : take (suc k) (s.pending b) ≡ take k (s.pending b) ++ w ∷ [] = take-suc (s.pending b) k (0, 0) within in
+          ap (λ (u : ℕ × ℕ). (fill (read (depth g') g' u.0) g' b u.1 (settled b g s k)).1) (sym head_is)
+          ∙ sym (ap (λ (us : List (ℕ × ℕ)). settle_pending g' b us (set_pending b [] s)) one ∙ settle_more g' b (take k (s.pending b)) (w ∷ []) (set_pending b [] s))
 
       pub settling_next : {fl₁ wl₁ : List ℕ} {r : Counts} → ((g : Graph) → (s : Form) → CanFill gl fl wl c v x b g s → HasFilled fl₁ wl₁ c.call r v x b g s)
-          → Settling gl fl₁ wl₁ list r b n (left - 1) g s
+          → Settling gl fl₁ wl₁ list r b n (k + 1) g s
       settling_next {fl₁} {wl₁} {r} F =
-          let f = F (mark_sealed g b) (settled b g s (n - left)) fill_can in
-          record {
+          let f = F (mark_sealed g b) (settled b g s k) fill_can in
+          rw add-one record {
             graph = record { cells = h.graph.cells; call = f.call ∙ h.graph.call };
             shown = subst (λ (t : Form). Shown fl₁ wl₁ r (conf [] [] t)) one_more f.shown;
             steady = h.steady;
             known = h.known;
             unsealed = h.unsealed;
+            whole = h.whole;
             lists = h.lists;
           }
 
-  pub settling_end : left ≤ 0 → AtRest gl fl wl c (mark_sealed g b) (seal_form g s b)
+  pub settling_end : length list ≤ k → AtRest gl fl wl c (mark_sealed g b) (seal_form g s b)
   settling_end done = record {
     graph = h.graph;
     shown =
-        let all : take (n - left) (s.pending b) ≡ s.pending b = take_all (n - left) (s.pending b) (omega (arith, h.lists.count)) in
+        let all : take k (s.pending b) ≡ s.pending b = take_all k (s.pending b) (omega (arith, count_is, h.whole)) in
         subst (λ (us : List (ℕ × ℕ)). Shown fl wl c (conf [] [] (settle_pending (mark_sealed g b) b us (set_pending b [] s)))) all h.shown;
     steady = steady_seal g s h.steady b h.known h.unsealed;
   }
-
--- ---- a block
-
-module _ {gl fl wl : List ℕ} {c : Counts} {b : ℕ} {g : Graph} {s : Form} (h : CanSeal gl fl wl c b g s) where
-  pub seal_seen : Seen gl g
-  seal_seen = seen_of h.rest.graph h.rest.steady
-
-  pub seal_known : b < limits.blocks
-  seal_known = le_trans h.known h.rest.steady.bounds.few
-
-  pub sealed_again : {z : Bool} → ((g : Graph) → Seen gl g → z ≡ g.sealed b) → z ≡ true → HasSealed gl fl wl c b g s
-  sealed_again is e = record { again = λ _. h.rest; first = λ o. absurd (false_true (is g seal_seen ∙ o) e) }
-
-  module _ {z : Bool} (is : (g : Graph) → Seen gl g → z ≡ g.sealed b) (e : z ≡ false) {gl₁ : List ℕ}
-      (M : (g : Graph) → Seen gl g → ShownGraph gl₁ (mark_sealed g b)) where
-    pub marked : Marked gl₁ fl wl c b g s
-    marked = record {
-      graph = record { cells = M g seal_seen; call = h.rest.graph.call };
-      shown = h.rest.shown;
-      steady = h.rest.steady;
-      known = h.known;
-      unsealed = sym (is g seal_seen) ∙ e;
-    }
-
-    pub sealed_first : {fl₁ wl₁ : List ℕ} {r : Counts} → AtRest gl₁ fl₁ wl₁ r (mark_sealed g b) (seal_form g s b) → HasSealed gl₁ fl₁ wl₁ r b g s
-    sealed_first a = record { again = λ o. absurd (false_true e (is g seal_seen ∙ o)); first = λ _. a }
 
 -- ---- all blocks
 

@@ -10,7 +10,7 @@ use Rattle.entity.specs.declared.Branch.{Branch}
 use Rattle.entity.specs.declared.Value.{Value}
 use Rattle.definition.specs.Form.{Graph, Form}
 use Rattle.definition.specs.Read.{settle}
-use Rattle.meaning.specs.Machine.{Task, conf, turn}
+use Rattle.meaning.specs.Machine.{Task, look, conf, turn}
 use Rattle.meaning.proofs.Rooms.{moment_turn}
 use Rattle.layout.specs.declared.Call.{Call}
 use Rattle.layout.specs.declared.Counts.{Counts}
@@ -18,7 +18,6 @@ use Rattle.layout.specs.Counts.{task, call_less, one_result}
 use Rattle.layout.specs.Layout.{Shows, Stacks, Shown}
 use Rattle.work.specs.Work.{CanPop, CanAnswer, lasts}
 use Rattle.lookup.specs.Find.{CanUse, Visits}
-use Rattle.settle.specs.declared.Finished.{Finished}
 use Rattle.settle.specs.Settle.{CanSettle, Settled}
 use Rattle.ssa.specs.Run.{Asks, UnderWay}
 use Rattle.ssa.proofs.Asks.{asks_at}
@@ -64,16 +63,18 @@ module _ {gl fl wl : List ℕ} {c : Counts} {v ty : ℕ} {g : Graph} {q : Task} 
     turn_of {fl₁ = fl₁} {wl₂ = wl₂} {r = r} e z = subst (λ (t : Task). Shown fl₁ wl₂ r (turn g v (t ∷ ts) rs s)) (sym e ∙ (P.1 q ts rs pop_can).0) z
 
     -- a visit
-    module _ {p : Branch} (e : a ≡ Call.UseVar p) where
-      pub use_can : CanUse gl fl wl d v ty p.0 g s ts rs
+    module _ {p : Branch} (e : a ≡ Call.UseVar p) {b : Block} (block_is : b.0 ≡ p.0) where
+      pub use_can : CanUse gl fl wl d v ty b.0 g s ts rs
       use_can =
           let k = asks_of (ap task e) in
-          record { seen = h.seen; call = call_then ∙ h.call; shows = shows_then; stacks = stacks_then; var = h.var; type = h.type; known = k.0; ready = k.1 }
+          record { seen = h.seen; call = call_then ∙ h.call; shows = shows_then; stacks = stacks_then; var = h.var; type = h.type; known = rw block_is k.0; ready = k.1 }
 
       pub turned_look : (fl₁ wl₂ : List ℕ) (r : Counts)
-          → ((g : Graph) → (s : Form) → (ts : List Task) → (rs : List ℕ) → CanUse gl fl wl d v ty p.0 g s ts rs → Visits fl₁ wl₂ d.call r v p.0 g s ts rs)
+          → ((g : Graph) → (s : Form) → (ts : List Task) → (rs : List ℕ) → CanUse gl fl wl d v ty b.0 g s ts rs → Visits fl₁ wl₂ d.call r v b.0 g s ts rs)
           → UnderWay gl fl₁ wl₂ r v ty g (turn g v (q ∷ ts) rs s)
-      turned_look fl₁ wl₂ r U = let w = U g s ts rs use_can in next fl₁ wl₂ r (w.call ∙ call_then) (turn_of (ap task e) w.shown)
+      turned_look fl₁ wl₂ r U =
+          let w = U g s ts rs use_can in
+          next fl₁ wl₂ r (w.call ∙ call_then) (turn_of (ap task e) (subst (λ (n : ℕ). Shown fl₁ wl₂ r (turn g v (look n ∷ ts) rs s)) block_is w.shown))
 
     -- settling
     module _ {x : Value} {b : Block} (e : a ≡ Call.FinishPredecessorsLookup x b) where
@@ -86,7 +87,7 @@ module _ {gl fl wl : List ℕ} {c : Counts} {v ty : ℕ} {g : Graph} {q : Task} 
         settles = asks_of (ap task e);
       }
 
-      module _ {fl₁ : List ℕ} {f : Finished}
+      module _ {fl₁ : List ℕ} {f : Value × Counts}
           (F : (g : Graph) → (s : Form) → (ts : List Task) → (rs : List ℕ) → CanSettle gl fl wl d x.0 b.0 g s ts rs → Settled fl₁ wl d.call f x.0 b.0 g s ts rs) where
         pub answer_can : CanAnswer wl f.1 ts (drop (length (g.preds b.0)) rs)
         answer_can =

@@ -8,13 +8,12 @@ use mathlib.Core.List.{List, [], ◌∷◌}
 use native.Mathlib.Nat.{le_trans}
 use native.Mathlib.Omega.{arith}
 use lib.ListN.{length}
-use Rattle.entity.specs.declared.OptionValue.{OptionValue}
+use Rattle.entity.specs.declared.Branch.{Branch}
 use Rattle.entity.specs.declared.Value.{Value}
 use Rattle.entity.specs.Limits.{limits}
-use Rattle.entity.specs.Options.{value_of}
 use Rattle.definition.specs.Base.{put}
-use Rattle.definition.specs.Form.{Graph, Form, def}
-use Rattle.definition.specs.Read.{Got, type_of, fill, read_on, read, depth}
+use Rattle.definition.specs.Form.{Graph, Form}
+use Rattle.definition.specs.Read.{type_of, fill, read, depth}
 use Rattle.meaning.specs.Machine.{Task, look, conf, schedule}
 use Rattle.meaning.proofs.Load.{load_next}
 use Rattle.meaning.proofs.Machine.{does, fills}
@@ -27,10 +26,8 @@ use Rattle.layout.specs.Counts.{with_values, one_call}
 use Rattle.layout.specs.Layout.{Graphs, Stacks, Shown}
 use Rattle.graph.specs.Seen.{Seen}
 use Rattle.graph.proofs.Cells.{preds_few}
-use Rattle.form.specs.Can.{HasDef}
 use Rattle.work.specs.Work.{CanCall}
 use Rattle.lookup.specs.Find.{CanBegin}
-use Rattle.settle.specs.declared.Finished.{Finished}
 use Rattle.ssa.specs.Run.{CanRun, Ran}
 use Rattle.ssa.specs.Use.{AtRest, CanRead, HasRead, CanFill, HasFilled}
 use Rattle.ssa.proofs.Asks.{asks_at, first_asks}
@@ -39,7 +36,7 @@ pub seen_of : {gl : List ℕ} {c : Counts} {g : Graph} {s : Form} → Graphs gl 
 seen_of e h = record { cells = e.cells; bounds = h.bounds; sound = h.sound }
 
 -- a run leaves the heights as it found them
-rested : {fl wl wl₁ : List ℕ} {c : Counts} {n : ℕ} {f : Finished} {x : ℕ} {s : Form} → Stacks wl c [] [] → Ran fl wl₁ n f x s → Shown fl wl₁ (with_values f.1.values c) (conf [] [] s)
+rested : {fl wl wl₁ : List ℕ} {c : Counts} {n : ℕ} {f : Value × Counts} {x : ℕ} {s : Form} → Stacks wl c [] [] → Ran fl wl₁ n f x s → Shown fl wl₁ (with_values f.1.values c) (conf [] [] s)
 rested k a = record {
   form = record { cells = a.shown.form.cells; next = a.shown.form.next };
   work = record { cells = a.shown.work.cells; calls = k.calls; results = k.results };
@@ -51,34 +48,19 @@ module _ {gl fl wl : List ℕ} {c : Counts} {v b : ℕ} {g : Graph} {s : Form} (
   pub read_seen : Seen gl g
   read_seen = seen_of h.rest.graph h.rest.steady
 
-  pub var_known : v < limits.variables
-  var_known = le_trans h.var h.rest.steady.bounds.vars
-
-  pub def_can : HasDef fl v b s
-  def_can = record { cells = h.rest.shown.form.cells; var = var_known; known = le_trans h.known h.rest.steady.bounds.few }
-
-  -- recorded in b itself
-  pub read_here : {x : OptionValue} {y : Value} → x ≡ OptionValue.Some y → value_of x ≡ def s v b → (r : Finished) → r.0.0 ≡ y.0 → r.1 ≡ c → HasRead gl fl wl r v b g s
-  read_here {y = y} e here r ev ec =
-      let q : read (depth g) g v b s ≡ (y.0, s) = ap (read_on (read g.blocks g v) g v b s) (sym here ∙ ap value_of e) in
-      record {
-        val = ev ∙ ap (λ (z : Got). z.0) (sym q);
-        rest = subst (λ (z : Got). AtRest gl fl wl r.1 g z.1) (sym q) (subst (λ (d : Counts). AtRest gl fl wl d g s) (sym ec) h.rest);
-      }
-
   -- the first visit can be scheduled
   pub first_can : CanCall wl c [] []
   first_can = record { stacks = h.rest.shown.work; room = omega arith }
 
-  module _ {ty : ℕ} (e : (g : Graph) → Seen gl g → ty ≡ type_of g v) {wl₁ : List ℕ} {d : Counts}
-      (P : (d ≡ one_call c) × ((ts : List Task) → (rs : List ℕ) → CanCall wl c ts rs → Stacks wl₁ (one_call c) (look b ∷ ts) rs)) where
+  module _ {ty : ℕ} (e : (g : Graph) → Seen gl g → ty ≡ type_of g v) {p : Branch} (branch_is : p.0 ≡ b) {wl₁ : List ℕ} {d : Counts}
+      (P : (d ≡ one_call c) × ((ts : List Task) → (rs : List ℕ) → CanCall wl c ts rs → Stacks wl₁ (one_call c) (look p.0 ∷ ts) rs)) where
     pub use_run : CanRun gl fl wl₁ d v ty g (conf (look b ∷ []) [] s) (read (depth g) g v b s).0 (read (depth g) g v b s).1
     use_run = record {
       under = record {
         seen = read_seen;
         call = ap (λ (k : Counts). k.call) P.0 ∙ h.rest.graph.call;
         shown = subst (λ (k : Counts). Shown fl wl₁ k (conf (look b ∷ []) [] s)) (sym P.0)
-            (record { form = record { cells = h.rest.shown.form.cells; next = h.rest.shown.form.next }; work = P.1 [] [] first_can });
+            (record { form = record { cells = h.rest.shown.form.cells; next = h.rest.shown.form.next }; work = subst (λ (n : ℕ). Stacks wl₁ (one_call c) (look n ∷ []) []) branch_is (P.1 [] [] first_can) });
         var = h.var;
         type = e g read_seen;
         low = (h.known, tt);
@@ -91,8 +73,8 @@ module _ {gl fl wl : List ℕ} {c : Counts} {v b : ℕ} {g : Graph} {s : Form} (
       goal = does g h.rest.steady.sound v (depth g) b s h.known (shallow v s g) [] [];
     }
 
-    pub has_read : {fl₁ wl₂ : List ℕ} {f : Finished} → Ran fl₁ wl₂ d.call f (read (depth g) g v b s).0 (read (depth g) g v b s).1
-        → (r : Finished) → r.0.0 ≡ f.0.0 → r.1 ≡ with_values f.1.values c → HasRead gl fl₁ wl₂ r v b g s
+    pub has_read : {fl₁ wl₂ : List ℕ} {f : Value × Counts} → Ran fl₁ wl₂ d.call f (read (depth g) g v b s).0 (read (depth g) g v b s).1
+        → (r : Value × Counts) → r.0.0 ≡ f.0.0 → r.1 ≡ with_values f.1.values c → HasRead gl fl₁ wl₂ r v b g s
     has_read {fl₁} {wl₂} a r ev ec = record {
       val = ev ∙ a.val;
       rest = subst (λ (k : Counts). AtRest gl fl₁ wl₂ k g (read (depth g) g v b s).1) (sym ec) (record {
@@ -146,7 +128,7 @@ module _ {gl fl wl : List ℕ} {c : Counts} {v x b : ℕ} {g : Graph} {s : Form}
       goal = fills g h.seen.sound v (depth g) b x s (shallow v s g) [] [];
     }
 
-    pub has_filled : {fl₁ wl₂ : List ℕ} {f : Finished} → Ran fl₁ wl₂ d.call f (fill (read (depth g) g v) g b x s).0 (fill (read (depth g) g v) g b x s).1
+    pub has_filled : {fl₁ wl₂ : List ℕ} {f : Value × Counts} → Ran fl₁ wl₂ d.call f (fill (read (depth g) g v) g b x s).0 (fill (read (depth g) g v) g b x s).1
         → {r : Counts} → r ≡ with_values f.1.values c → HasFilled fl₁ wl₂ c.call r v x b g s
     has_filled {fl₁} {wl₂} a ec =
         subst (λ (k : Counts). HasFilled fl₁ wl₂ c.call k v x b g s) (sym ec) (record { call = refl; shown = rested h.shown.work a })

@@ -1,6 +1,7 @@
 -- A run of the machine over the lent cells: one turn, and all of them. What a turn needs, and what is so after it, is said of the definition alone.
 -- Assumes nothing.
 use Rattle.std.specs.Prelude.{ℕ, ◌<◌, ◌≤◌, ◌≡◌, List, [], ◌∷◌, length}
+use Rattle.entity.specs.declared.Value.{Value}
 use Rattle.entity.specs.Limits.{limits, call_room}
 use Rattle.definition.specs.Form.{Graph, Form}
 use Rattle.definition.specs.Read.{type_of}
@@ -12,7 +13,6 @@ use Rattle.layout.specs.declared.Counts.{Counts}
 use Rattle.layout.specs.Layout.{Shown}
 use Rattle.graph.specs.Seen.{Seen}
 use Rattle.lookup.specs.Find.{Ready}
-use Rattle.settle.specs.declared.Finished.{Finished}
 use Rattle.settle.specs.Settle.{Settles}
 
 -- what the call on top asks: a visit or settling
@@ -50,7 +50,7 @@ pub record CanRun (gl fl wl : List ℕ) (c : Counts) (v ty : ℕ) (g : Graph) (k
   pub goal : Goes g v k (conf [] (x ∷ []) s)
 
 -- the answer is x, both stacks are empty, and the call's number n is unchanged
-pub record Ran (fl wl : List ℕ) (n : ℕ) (r : Finished) (x : ℕ) (s : Form) : Type 0 where
+pub record Ran (fl wl : List ℕ) (n : ℕ) (r : Value × Counts) (x : ℕ) (s : Form) : Type 0 where
   pub call : r.1.call ≡ n
   pub val : r.0.0 ≡ x
   pub shown : Shown fl wl r.1 (conf [] [] s)

@@ -1,6 +1,7 @@
 -- A use and a seal over the lent cells: each asks that the cells show a steady state, as every session's is, and leaves them showing the next one.
 -- Assumes nothing.
 use Rattle.std.specs.Prelude.{ℕ, suc, ◌<◌, ◌≡◌, true, false, List, [], ◌∷◌, length}
+use Rattle.entity.specs.declared.Value.{Value}
 use Rattle.definition.specs.Base.{put}
 use Rattle.definition.specs.Form.{Graph, Form}
 use Rattle.definition.specs.Read.{read, depth, fill}
@@ -12,7 +13,6 @@ use Rattle.meaning.proofs.Steady.{Steady}
 use Rattle.layout.specs.declared.Counts.{Counts}
 use Rattle.layout.specs.Layout.{Graphs, Shown}
 use Rattle.graph.specs.Seen.{Seen}
-use Rattle.settle.specs.declared.Finished.{Finished}
 
 -- there are a graph and a form such that
 abbrev pub StateWith : (Graph → Form → Type 0) → Type 0
@@ -30,7 +30,7 @@ pub record CanRead (gl fl wl : List ℕ) (c : Counts) (v b : ℕ) (g : Graph) (s
   pub var : v < length g.types
   pub known : b < g.blocks
 
-pub record HasRead (gl fl wl : List ℕ) (r : Finished) (v b : ℕ) (g : Graph) (s : Form) : Type 0 where
+pub record HasRead (gl fl wl : List ℕ) (r : Value × Counts) (v b : ℕ) (g : Graph) (s : Form) : Type 0 where
   pub val : r.0.0 ≡ (read (depth g) g v b s).0
   pub rest : AtRest gl fl wl r.1 g (read (depth g) g v b s).1
 

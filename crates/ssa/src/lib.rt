@@ -1,4 +1,5 @@
 // Reading a variable, and sealing a block: the rest of the original's ssa.rs, in its order and with its names.
+// The three tables are lent and the counts go by value, each a parameter of its own: a rule of the project, for the original's `&mut self`.
 #![tactic(auto)]
 
 ghost use Rattle.std.specs.Prelude.{◌≡◌, not, List, ◌∷◌, ℕ, ◌<◌, eqb, length};
@@ -13,9 +14,8 @@ ghost use Rattle.form.specs.Can.{Ex, Cells, HasDef};
 ghost use Rattle.ssa.specs.Run.{TurnWith, RunWith, UnderWay, CanRun, Ran};
 ghost use Rattle.ssa.specs.Use.{StateWith, AtRest, CanRead, HasRead, CanFill, HasFilled, CanSeal, HasSealed, Marked};
 
-use entity::{Block, Branch, OptionValue, Value, Variable};
+use entity::{Block, Branch, Value, Variable};
 use layout::{Call, Counts};
-use settle::Finished;
 
 // The value is the variable's definition in the block.
 pub fn def_var(form: &mut [u32], var: Variable, val: Value, block: Block)
@@ -36,21 +36,18 @@ pub fn use_var(
     c: Counts,
     var: Variable,
     block: Block,
-) -> Finished
+) -> (Value, Counts)
     requires { StateWith (CanRead graph.now form.old work.old c var.0 block.0) }
     ensures { (g : Graph) → (s : Form) → CanRead graph.now form.old work.old c var.0 block.0 g s
         → HasRead graph.now form.new work.new result var.0 block.0 g s }
 {
-    let here = form::definition(form, var, block);
-    if let OptionValue::Some(val) = here {
-        return Finished(val, c);
+    if let Some(val) = form::definition(form, var, block) {
+        return (val, c);
     }
     let ty = graph::variable_type(graph, var);
-    let d = work::push_call(work, c, Call::UseVar(Branch(block.0)));
-    let f = run_state_machine(graph, form, work, d, var, ty);
-    let val = f.0;
-    let e = f.1;
-    Finished(val, c.with_values(e.values))
+    let d = work::push_call(work, c, Call::UseVar(Branch::from(block)));
+    let (val, e) = run_state_machine(graph, form, work, d, var, ty);
+    (val, c.with_values(e.values))
 }
 
 // Seals the blocks by number; those that are sealed stay as they are.
@@ -62,10 +59,8 @@ pub fn seal_all_blocks(graph: &mut [u32], form: &mut [u32], work: &mut [u32], c:
 {
     let n = graph::block_count(graph);
     let mut d = c;
-    let mut b: u32 = 0;
-    while b < n {
+    for b in 0..n {
         d = seal_one_block(graph, form, work, d, Block(b));
-        b += 1;
     }
     d
 }
@@ -90,7 +85,7 @@ pub fn seal_one_block(
 }
 
 // Settles the pending variables in the order in which they came to wait, as each appends its arguments after those of the ones before it.
-// Settled parameters may have left the block's list, but those of the variables that are left are the last of it.
+// Settled parameters may have left the block's list, but those of the n - k variables that are left are the last of it.
 fn settle_pending(
     graph: &[u32],
     form: &mut [u32],
@@ -102,16 +97,14 @@ fn settle_pending(
     ensures { (g : Graph) → (s : Form) → Marked graph.now form.old work.old c block.0 g s
         → AtRest graph.now form.new work.new result (mark_sealed g block.0) (seal_form g s block.0) }
 {
+    // Fixed memory, no heap: the list is taken out of the cells before they are changed.
     let mut waiting = [0u32; entity::WAIT_ROOM];
-    let n = form::take_pending(form, block, &mut waiting);
+    let pending = form::take_pending(form, block, &mut waiting);
+    let n = pending.len() as u32;
     let mut d = c;
-    let mut left = n;
-    while 0 < left {
-        let k = (n - left) as usize;
-        let var = Variable(waiting[k]);
-        let val = form::pending_param(form, block, left);
-        d = predecessors_lookup(graph, form, work, d, var, val, block);
-        left -= 1;
+    for (k, v) in pending.iter().enumerate() {
+        let val = form::pending_param(form, block, n - k as u32);
+        d = predecessors_lookup(graph, form, work, d, Variable(*v), val, block);
     }
     d
 }
@@ -133,8 +126,7 @@ fn predecessors_lookup(
 {
     let ty = graph::variable_type(graph, var);
     let d = lookup::begin_predecessors_lookup(graph, work, c, sentinel, dest);
-    let f = run_state_machine(graph, form, work, d, var, ty);
-    let e = f.1;
+    let (_, e) = run_state_machine(graph, form, work, d, var, ty);
     c.with_values(e.values)
 }
 
@@ -154,7 +146,7 @@ fn run_state_machine(
     c: Counts,
     var: Variable,
     ty: u32,
-) -> Finished
+) -> (Value, Counts)
     requires { RunWith (CanRun graph.now form.old work.old c var.0 ty) }
     ensures { (g : Graph) → (k : Conf) → (x : ℕ) → (s : Form)
         → CanRun graph.now form.old work.old c var.0 ty g k x s
@@ -165,8 +157,7 @@ fn run_state_machine(
         d = step(graph, form, work, d, var, ty);
     }
     let val = work::result(work, d, 1, 0);
-    let e = d.pop_results(1);
-    Finished(val, e)
+    (val, d.pop_results(1))
 }
 
 // One turn: the call that was scheduled last is run.
@@ -194,12 +185,10 @@ fn step(
             d,
             var,
             ty,
-            Block(branch.0),
+            Block::from(branch),
         ),
         Call::FinishPredecessorsLookup(sentinel, dest) => {
-            let f = settle::finish_predecessors_lookup(graph, form, work, d, sentinel, dest);
-            let val = f.0;
-            let e = f.1;
+            let (val, e) = settle::finish_predecessors_lookup(graph, form, work, d, sentinel, dest);
             work::push_result(work, e, val)
         }
     }

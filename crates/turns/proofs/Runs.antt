@@ -102,8 +102,10 @@ module _ {ks xs ys zs ls ns gl fl wl : List ℕ} {c : Counts} {i : ℕ} (h : Run
         ap (step (session (take i all))) (sym (calls_at ks xs ys zs d i lt h.lined.xs_long h.lined.ys_long h.lined.zs_long))
         ∙ sym (run_last (take i all) (get_or all i d) empty) ∙ ap session (sym (take-suc all i d (omega (arith, lt, all_length))))
 
-    pub running_next : {ls' ns' gl' fl' wl' : List ℕ} {d : Counts} → length ls' ≡ length ls → length ns' ≡ length ns → length gl' ≡ length gl → length fl' ≡ length fl
-        → length wl' ≡ length wl → Turned ks ls' ns' gl' fl' wl' d (suc i) (step (session (take i all)) (call_at ks xs ys zs i)) → Running ks xs ys zs ls' ns' gl' fl' wl' d (i + 1)
+    pub running_next : {ls' ns' gl' fl' wl' : List ℕ} {d : Counts} → length ls' ≡ length ls → length ns' ≡ length ns → length gl' ≡ length gl
+        → length fl' ≡ length fl
+        → length wl' ≡ length wl → Turned ks ls' ns' gl' fl' wl' d (suc i) (step (session (take i all)) (call_at ks xs ys zs i))
+        → Running ks xs ys zs ls' ns' gl' fl' wl' d (i + 1)
     running_next el en eg ef ew t = record {
       most = omega (arith, lt);
       lined = record {

@@ -2,15 +2,16 @@
 -- Assumes nothing.
 use Prim.Native.Nat.{ℕ, zero, suc, ◌<◌, ◌≤◌}
 use mathlib.Core.Path.{◌≡◌, refl, sym, ap, ◌∙◌}
-use mathlib.Core.Bool.{◌&&◌, cond}
+use mathlib.Core.Bool.{Bool, true, false, ◌&&◌, cond}
 use mathlib.Core.Option.{none, some}
 use mathlib.Core.List.{List, [], ◌∷◌, ◌++◌, map, map-append}
 use native.Mathlib.Nat.{not-suc-le-zero, le_of_suc-le-suc}
 use native.Mathlib.Omega.{arith}
-use borrow.Author.Tests.{eq-eqb, ne_eqb}
 use lib.Dec.{eqb}
 use lib.ListN.{length, get_or, set, take, length-append}
 use lib.Seq.{get_or-take, take-suc, take-suc-set}
+use Rattle.std.specs.Bool.{then_some}
+use Rattle.entity.specs.Options.{value_of}
 use Rattle.definition.specs.Base.{◌∷ʳ◌}
 use Rattle.definition.specs.Session.{Done, answered}
 use Rattle.turns.specs.Turns.{Told}
@@ -38,6 +39,10 @@ answered_past (d ∷ ds) (suc k) l = answered_past ds k (le_of_suc-le-suc l)
 pub not_yet : {i k : ℕ} (ds : List Done) → i ≡ length ds → i ≤ k → none ≡ answered ds k
 not_yet {k = k} ds e l = sym (answered_past ds k (omega (arith, e)))
 
+value_then : (b : Bool) (n : ℕ) → value_of (then_some b (record { 0 = n })) ≡ cond b (some n) none
+value_then true n = refl
+value_then false n = refl
+
 -- the first cells of a list hold something of each that was done
 module _ (f : Done → ℕ) (ds : List Done) (l : List ℕ) (h : take (length ds) l ≡ map f ds) where
   first_at : (k : ℕ) → k < length ds → get_or (map f ds) k 0 ≡ get_or l k 0
@@ -54,14 +59,9 @@ module _ {ks ls ns : List ℕ} {ds : List Done} (h : Told ks ls ns ds) where
     answer : answered ds k ≡ cond (eqb (get_or ks k 0) 6 && eqb (get_or ls k 0) 0) (some (get_or ns k 0)) none
     answer = answered_at ds k lt ∙ rw (first_at kind_of ds ks h.kinds k lt, first_at code_of ds ls h.codes k lt, first_at number_of ds ns h.numbers k lt)
 
-    pub no_use : (get_or ks k 0 ≡ 6 → ⊥) → none ≡ answered ds k
-    no_use n = rw (answer, ne_eqb (get_or ks k 0) 6 n)
-
-    pub refused_use : get_or ks k 0 ≡ 6 → (get_or ls k 0 ≡ 0 → ⊥) → none ≡ answered ds k
-    refused_use e n = rw (answer, eq-eqb (get_or ks k 0) 6 e, ne_eqb (get_or ls k 0) 0 n)
-
-    pub the_use : get_or ks k 0 ≡ 6 → get_or ls k 0 ≡ 0 → some (get_or ns k 0) ≡ answered ds k
-    the_use e z = rw (answer, eq-eqb (get_or ks k 0) 6 e, eq-eqb (get_or ls k 0) 0 z)
+    -- b says whether the call at place k was an accepted use
+    pub the_use : (b : Bool) → b ≡ (eqb (get_or ks k 0) 6 && eqb (get_or ls k 0) 0) → value_of (then_some b (record { 0 = get_or ns k 0 })) ≡ answered ds k
+    the_use b e = value_then b (get_or ns k 0) ∙ ap (λ (z : Bool). cond z (some (get_or ns k 0)) none) e ∙ sym answer
 
   pub told_more : {i : ℕ} → i ≡ length ds → i < length ks → i < length ls → i < length ns → (d : Done) → d.asked.kind ≡ get_or ks i 0
       → Told ks (set ls i d.code) (set ns i d.number) (ds ∷ʳ d)

@@ -27,7 +27,8 @@ counted : {gl fl : List ℕ} {c : Counts} {g : Graph} {s : Form} (t : State) (d 
 counted t d l h = omega (arith, l.graph.call, h.count, length-append t.done (d ∷ []))
 
 module _ {gl fl wl : List ℕ} {r : Reply} (t : State) where
-  module _ {ks ls ns : List ℕ} {i : ℕ} (told : Told ks ls ns t.done) (at : i ≡ length t.done) (lk : i < length ks) (ll : i < length ls) (ln : i < length ns) where
+  module _ {ks ls ns : List ℕ} {i : ℕ} (told : Told ks ls ns t.done) (at : i ≡ length t.done) (lk : i < length ks) (ll : i < length ls)
+      (ln : i < length ns) where
     one_more : {g : Graph} {s : Form} (d : Done) → d.asked.kind ≡ get_or ks i 0 → r.code ≡ d.code → r.number ≡ d.number → Leaves gl fl r.counts g s
         → Piles wl [] [] → Sure (then t g s d) → Turned ks (set ls i r.code) (set ns i r.number) gl fl wl (next_call r.counts) (suc i) (then t g s d)
     one_more d kind ec en l idle h = rw (ec, en) record {
@@ -60,7 +61,8 @@ module _ {gl fl wl : List ℕ} {r : Reply} (t : State) where
           (counted t d q.leaves h, one_more d kind q.code q.number q.leaves p.idle h)
 
 -- the turn at place i
-module _ {ks xs ys zs ls ns gl fl wl : List ℕ} {c : Counts} {i : ℕ} {t : State} (h : Turned ks ls ns gl fl wl c i t) (lt : i < length ks) (q : Lined (length ks) xs ys zs ls ns)
+module _ {ks xs ys zs ls ns gl fl wl : List ℕ} {c : Counts} {i : ℕ} {t : State} (h : Turned ks ls ns gl fl wl c i t) (lt : i < length ks)
+    (q : Lined (length ks) xs ys zs ls ns)
     {gl' fl' wl' : List ℕ} {r : Reply}
     (p : Replied gl' fl' wl' r t.graph t.form (reply t.graph t.form t.done (get_or xs i 0) (get_or ys i 0) (get_or zs i 0) (get_or ks i 0))) where
   abbrev this : Call
@@ -70,7 +72,8 @@ module _ {ks xs ys zs ls ns gl fl wl : List ℕ} {c : Counts} {i : ℕ} {t : Sta
   said = reply t.graph t.form t.done (get_or xs i 0) (get_or ys i 0) (get_or zs i 0) (get_or ks i 0)
 
   turned : (r.counts.call ≡ length t.done) × Turned ks (set ls i r.code) (set ns i r.number) gl' fl' wl' (next_call r.counts) (suc i) (step t this)
-  turned = turned_after t h.told h.turns lt (omega (arith, lt, q.codes_long)) (omega (arith, lt, q.numbers_long)) this refl said p (step_sure t this h.between.showing.sure)
+  turned = turned_after t h.told h.turns lt (omega (arith, lt, q.codes_long)) (omega (arith, lt, q.numbers_long)) this refl said p
+      (step_sure t this h.between.showing.sure)
 
   pub call_small : r.counts.call < limits.calls
   call_small = omega (arith, turned.0, h.turns, lt, q.few)

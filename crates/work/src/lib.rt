@@ -10,10 +10,6 @@ ghost use Rattle.work.specs.Work.{Some, CanCall, CanPop, CanAnswer, CanTake, las
 use entity::{Block, Branch, Value};
 use layout::{CALL_BLOCKS, CALL_VALUES, Call, Counts, RESULTS};
 
-// The call that was scheduled last, and the counts without it.
-#[derive(Clone, Copy)]
-pub struct Popped(pub Call, pub Counts);
-
 // Two cells hold a call: a value of 0 marks a read, any other is the parameter to settle, plus one.
 pub fn push_call(work: &mut [u32], c: Counts, call: Call) -> Counts
     requires some { Some (CanCall work.old c) }
@@ -37,8 +33,9 @@ pub fn push_call(work: &mut [u32], c: Counts, call: Call) -> Counts
     }
 }
 
-// Its cells are left as they are: what is above the top is not read, and a session clears both stacks at its end.
-pub fn pop_call(work: &[u32], c: Counts) -> Popped
+// The call that was scheduled last, and the counts without it. Its cells are left as they are: what is above the top is not read, and a session clears both
+// stacks at its end.
+pub fn pop_call(work: &[u32], c: Counts) -> (Call, Counts)
     requires { (q : Task) × Some (CanPop work.now c q) }
     ensures { (result.1 ≡ call_less c)
         × ((q : Task) → (ts : List Task) → (rs : List ℕ) → CanPop work.now c q ts rs
@@ -49,9 +46,9 @@ pub fn pop_call(work: &[u32], c: Counts) -> Popped
     let b = work[CALL_BLOCKS + h];
     let d = c.pop_call();
     if v == 0 {
-        return Popped(Call::UseVar(Branch(b)), d);
+        return (Call::UseVar(Branch(b)), d);
     }
-    Popped(Call::FinishPredecessorsLookup(Value(v - 1), Block(b)), d)
+    (Call::FinishPredecessorsLookup(Value(v - 1), Block(b)), d)
 }
 
 // A read's answer waits here until its block is settled.

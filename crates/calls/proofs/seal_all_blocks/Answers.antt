@@ -8,7 +8,8 @@ use Rattle.calls.proofs.Calls.{at_rest, cells_of}
 use Rattle.calls.proofs.seal_all_blocks.Goals as goal
 
 pub zero_count-after-requires : goal.zero_count-after-requires
-zero_count-after-requires c = let p = c.requires in ((seal_each (up_from 0 p.0.graph.blocks) p.0.graph p.0.form).1, (c.seal_all_blocks-d.ensures _ _ (at_rest p.1)).shown.form.cells)
+zero_count-after-requires c = let p = c.requires in
+    ((seal_each (up_from 0 p.0.graph.blocks) p.0.graph p.0.form).1, (c.seal_all_blocks-d.ensures _ _ (at_rest p.1)).shown.form.cells)
 
 pub overflow_sub-after : goal.overflow_sub-after
 overflow_sub-after c =

@@ -1,15 +1,16 @@
 -- `is_sealed` meets its contract: it has the definition's one check, and the mark is the answer.
 -- Assumes nothing.
-use Rattle.std.proofs.Common.{refl}
+use Rattle.std.proofs.Common.{◌∙◌}
 use Rattle.reply.proofs.Asked.{seen}
-use Rattle.reply.proofs.Answered.{tested, refused, accepted}
+use Rattle.reply.proofs.Answered.{absent, accepted}
+use Rattle.connect.proofs.Checks.{byte_is}
 use Rattle.connect.proofs.is_sealed.Goals as goal
 
-pub returns-then-no_block : goal.returns-then-no_block
-returns-then-no_block c = λ fl t h. rw (tested (c.no_block.ensures.value _ t.form (seen h)) c.if-no_block.true) (refused h c.refuse.ensures)
+pub returns-in_err-block : goal.returns-in_err-block
+returns-in_err-block c = λ fl t h. let p = c.in_err-block.ensures in rw (p.missed _ t.form (seen h)) (absent h _ _ c.from_residual.ensures.1 p.absent)
 
 pub returns : goal.returns
 returns c =
     λ fl t h.
-    rw (tested (c.no_block.ensures.value _ t.form (seen h)) c.if-no_block.false, tested (c.is_sealed.ensures _ (seen h)) c.if-is_sealed.false)
-    (accepted c.accept-2.ensures refl h.leaves)
+    let p = c.in_ok-block.ensures in
+    rw (← p.same, p.there _ t.form (seen h), ← c.is_sealed.ensures _ (seen h)) (accepted _ _ c.accept.ensures (c.from.ensures ∙ byte_is _) h.leaves)

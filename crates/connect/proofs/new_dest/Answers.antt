@@ -3,44 +3,58 @@
 use Rattle.std.proofs.Common.{le-leb, refl, length}
 use borrow.Author.Tests.{lt-leb}
 use Rattle.entity.specs.Limits.{limits}
+use Rattle.reply.specs.declared.Refusal.{Refusal}
 use Rattle.reply.proofs.Asked.{seen, cells}
-use Rattle.reply.proofs.Answered.{tested, refused, changed, accepted}
+use Rattle.reply.proofs.Answered.{tested, refused, absent, changed, accepted}
 use Rattle.connect.proofs.new_dest.Goals as goal
 
-pub returns-then-no_branch : goal.returns-then-no_branch
-returns-then-no_branch c = λ fl t h. rw (tested (c.no_branch.ensures.value _ t.form (seen h)) c.if-no_branch.true) (refused h c.refuse.ensures)
+pub returns-in_err-branch : goal.returns-in_err-branch
+returns-in_err-branch c = λ fl t h. let p = c.in_err-branch.ensures in rw (p.missed _ t.form (seen h)) (absent h _ _ c.from_residual.ensures.1 p.absent)
 
-pub returns-then-no_block : goal.returns-then-no_block
-returns-then-no_block c =
+pub returns-in_err-block : goal.returns-in_err-block
+returns-in_err-block c =
     λ fl t h.
-    rw (tested (c.no_branch.ensures.value _ t.form (seen h)) c.if-no_branch.false, tested (c.no_block.ensures.value _ t.form (seen h)) c.if-no_block.true)
-    (refused h c.refuse-then-no_block.ensures)
+    let p = c.in_ok-branch.ensures in
+    let q = c.in_err-block.ensures in
+    rw (← p.same, p.there _ t.form (seen h), q.missed _ t.form (seen h)) (absent h _ _ c.from_residual-in_err-block.ensures.1 q.absent)
 
 pub returns-then-declared : goal.returns-then-declared
 returns-then-declared c =
     λ fl t h.
-    rw (tested (c.no_branch.ensures.value _ t.form (seen h)) c.if-no_branch.false, tested (c.no_block.ensures.value _ t.form (seen h)) c.if-no_block.false, tested (c.is_declared-declared.ensures _ (seen h)) c.if-declared.true)
-    (refused h c.refuse-then-declared.ensures)
+    let p = c.in_ok-branch.ensures in
+    let q = c.in_ok-block.ensures in
+    rw (← p.same, ← q.same, p.there _ t.form (seen h), q.there _ t.form (seen h), tested (c.is_declared-declared.ensures _ (seen h)) c.if-declared.true)
+    (refused h Refusal.Declared refl)
 
 pub returns-then-n-ge-DESTS : goal.returns-then-n-ge-DESTS
 returns-then-n-ge-DESTS c =
     λ fl t h.
+    let p = c.in_ok-branch.ensures in
+    let q = c.in_ok-block.ensures in
     rw (
-      tested (c.no_branch.ensures.value _ t.form (seen h)) c.if-no_branch.false,
-      tested (c.no_block.ensures.value _ t.form (seen h)) c.if-no_block.false,
+      ← p.same,
+      ← q.same,
+      p.there _ t.form (seen h),
+      q.there _ t.form (seen h),
       tested (c.is_declared-declared.ensures _ (seen h)) c.if-declared.false,
-      le-leb limits.dests (length (t.graph.dests c.args.x)) (rw (← c.dest_count-n.ensures.value _ (seen h)) c.if-n-ge-DESTS.true),
+      ← c.dest_count-n.ensures.value _ (seen h),
+      le-leb limits.dests _ c.if-n-ge-DESTS.true,
     )
-    (refused h c.refuse-then-n-ge-DESTS.ensures)
+    (refused h Refusal.DestsFull refl)
 
 pub returns : goal.returns
 returns c =
     λ fl t h.
+    let p = c.in_ok-branch.ensures in
+    let q = c.in_ok-block.ensures in
     let count = c.dest_count-n.ensures.value _ (seen h) in
     rw (
-      tested (c.no_branch.ensures.value _ t.form (seen h)) c.if-no_branch.false,
-      tested (c.no_block.ensures.value _ t.form (seen h)) c.if-no_block.false,
+      ← p.same,
+      ← q.same,
+      p.there _ t.form (seen h),
+      q.there _ t.form (seen h),
       tested (c.is_declared-declared.ensures _ (seen h)) c.if-declared.false,
-      lt-leb limits.dests (length (t.graph.dests c.args.x)) (rw (← count) c.if-n-ge-DESTS.false),
+      lt-leb limits.dests (length (t.graph.dests c.in_ok-branch.branch.0)) (rw (← count) c.if-n-ge-DESTS.false),
     )
-    (accepted c.accept.ensures count (changed h refl refl (c.declare_dest.ensures _ (record { seen = seen h; room = rw (← count) c.if-n-ge-DESTS.false })) (cells h)))
+    (accepted _ _ c.accept.ensures count (changed h refl refl (c.declare_dest.ensures _ (record { seen = seen h; room = rw (← count) c.if-n-ge-DESTS.false }))
+    (cells h)))

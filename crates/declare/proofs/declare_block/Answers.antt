@@ -16,5 +16,12 @@ returns c =
     let a = c.args in
     λ t h.
     let count = c.block_count-known.ensures.value _ (seen h) in
-    rw (lt-leb limits.blocks _ c.if-x-ge-BLOCKS.false, le-ltb t.graph.blocks a.x (rw (← count) c.if-known-x.false), le-ltb a.x t.graph.blocks (rw (← count) c.if-x-known.false), eq-eqb a.x 0 c.if-x-ne0.false)
-    (accepted c.accept-2.ensures refl (changed h refl refl (c.declare_block.ensures _ (seen h)) (c.place_block.ensures _ (can_place h t.form refl (cells h) 0 (omega arith)))))
+    rw (
+      lt-leb limits.blocks _ c.if-x-ge-BLOCKS.false,
+      le-ltb t.graph.blocks a.x (rw (← count) c.if-known-x.false),
+      le-ltb a.x t.graph.blocks
+          (rw (← count) c.if-x-known.false),
+      eq-eqb a.x 0 c.if-x-ne0.false,
+    )
+    (accepted _ _ c.accept-2.ensures refl (changed h refl refl (c.declare_block.ensures _ (seen h))
+    (c.place_block.ensures _ (can_place h t.form refl (cells h) 0 (omega arith)))))

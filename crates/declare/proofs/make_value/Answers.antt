@@ -4,20 +4,30 @@ use Rattle.std.proofs.Common.{le-leb, suc, ◌<◌, refl}
 use borrow.Author.Tests.{lt-leb}
 use Rattle.entity.specs.Limits.{limits}
 use Rattle.entity.specs.Types.{type_count}
-use Rattle.definition.specs.Form.{made, with_makes}
+use Rattle.definition.specs.Form.{with_makes}
+use Rattle.reply.specs.declared.Refusal.{Refusal}
 use Rattle.reply.proofs.Asked.{seen, cells}
-use Rattle.reply.proofs.Answered.{tested, refused, value_added, accepted}
+use Rattle.reply.proofs.Answered.{tested, refused, absent, value_added, accepted}
 use Rattle.declare.proofs.Can.{can_place, can_count, can_make}
 use Rattle.declare.proofs.make_value.Goals as goal
 
-pub returns-then-no_block : goal.returns-then-no_block
-returns-then-no_block c = λ t h. rw (tested (c.no_block.ensures.value _ t.form (seen h)) c.if-no_block.true) (refused h c.refuse.ensures)
+pub returns-in_err-block : goal.returns-in_err-block
+returns-in_err-block c = λ t h. let p = c.in_err-block.ensures in rw (p.missed _ t.form (seen h)) (absent h _ _ c.from_residual.ensures.1 p.absent)
 
 pub returns-then-made_count-ge-MADE : goal.returns-then-made_count-ge-MADE
 returns-then-made_count-ge-MADE c =
     λ t h.
-    rw (tested (c.no_block.ensures.value _ t.form (seen h)) c.if-no_block.false, lt-leb type_count _ c.if-y-ge-COUNT.false, tested (c.has_branch.ensures _ (seen h)) c.if-has_branch.false, le-leb limits.made t.form.makes (rw (← c.made_count.ensures t.form (cells h)) c.if-made_count-ge-MADE.true))
-    (refused h c.refuse-then-made_count-ge-MADE.ensures)
+    let p = c.in_ok-block.ensures in
+    let q = c.in_ok-ty.ensures in
+    rw (
+      ← p.same,
+      ← q.0,
+      p.there _ t.form (seen h),
+      lt-leb type_count _ q.1,
+      tested (c.has_branch.ensures _ (seen h)) c.if-has_branch.false,
+      le-leb limits.made t.form.makes (rw (← c.made_count.ensures t.form (cells h)) c.if-made_count-ge-MADE.true),
+    )
+    (refused h Refusal.Full refl)
 
 pub count_made-requires : goal.count_made-requires
 count_made-requires c = let p = c.requires in (_, can_count p.1 (rw (← c.made_count.ensures p.0.form (cells p.1)) c.if-made_count-ge-MADE.false))
@@ -27,20 +37,33 @@ place_block-requires c =
     let p = c.requires in
     let h = p.1 in
     let room : p.0.form.makes < limits.made = rw (← c.made_count.ensures p.0.form (cells h)) c.if-made_count-ge-MADE.false in
-    (_, can_place h (with_makes p.0.form (suc p.0.form.makes)) refl (c.count_made.ensures _ (can_count h room)) _ (c.no_block.ensures.b_lt_blocks c.if-no_block.false))
+    (_, can_place h (with_makes p.0.form (suc p.0.form.makes)) refl (c.count_made.ensures _ (can_count h room)) _ c.in_ok-block.ensures.small)
 
 pub make-d-requires-clause-ex : goal.make-d-requires-clause-ex
 make-d-requires-clause-ex c =
     let p = c.requires in
     let h = p.1 in
     let room : p.0.form.makes < limits.made = rw (← c.made_count.ensures p.0.form (cells h)) c.if-made_count-ge-MADE.false in
-    let b = c.no_block.ensures.b_lt_blocks c.if-no_block.false in
-    (_, can_make h room _ (c.place_block.ensures _ (can_place h (with_makes p.0.form (suc p.0.form.makes)) refl (c.count_made.ensures _ (can_count h room)) _ b)))
+    let b = c.in_ok-block.ensures.small in (
+      _,
+      can_make h room _ (c.place_block.ensures _
+          (can_place h (with_makes p.0.form (suc p.0.form.makes)) refl (c.count_made.ensures _ (can_count h room)) _ b)),
+    )
 
 pub returns : goal.returns
 returns c =
     λ t h.
+    let p = c.in_ok-block.ensures in
+    let q = c.in_ok-ty.ensures in
     let room : t.form.makes < limits.made = rw (← c.made_count.ensures t.form (cells h)) c.if-made_count-ge-MADE.false in
-    rw (tested (c.no_block.ensures.value _ t.form (seen h)) c.if-no_block.false, lt-leb type_count _ c.if-y-ge-COUNT.false, tested (c.has_branch.ensures _ (seen h)) c.if-has_branch.false, lt-leb limits.made t.form.makes room)
-    (accepted c.accept.ensures h.leaves.form.next (value_added h c.make-d.ensures.0
-    (c.make-d.ensures.1 _ (can_make h room _ (c.place_block.ensures _ (can_place h (with_makes t.form (suc t.form.makes)) refl (c.count_made.ensures _ (can_count h room)) _ (c.no_block.ensures.b_lt_blocks c.if-no_block.false)))) made refl)))
+    rw (
+      ← p.same,
+      ← q.0,
+      p.there _ t.form (seen h),
+      lt-leb type_count _ q.1,
+      tested (c.has_branch.ensures _ (seen h)) c.if-has_branch.false,
+      lt-leb limits.made t.form.makes room,
+    )
+    (accepted _ _ c.accept.ensures h.leaves.form.next (value_added h c.make-d.ensures.0
+    (c.make-d.ensures.1 _ (can_make h room _ (c.place_block.ensures _
+    (can_place h (with_makes t.form (suc t.form.makes)) refl (c.count_made.ensures _ (can_count h room)) _ p.small))))))

@@ -4,7 +4,7 @@ use Rattle.form.proofs.Params.{argument_room, argument_appended}
 use Rattle.form.proofs.append_argument.Goals as goal
 
 pub push-requires : goal.push-requires
-push-requires c = argument_room _ _ _ c.requires.0 c.requires.1
+push-requires c = rw c.args_at.ensures (argument_room _ _ _ c.requires.0 c.requires.1)
 
 pub returns : goal.returns
-returns c = λ s p. argument_appended _ _ _ s p _ _ c.push.ensures
+returns c = λ s p. argument_appended _ _ _ s p _ _ (rw c.args_at.ensures at c.push.ensures)

@@ -4,4 +4,4 @@ use Rattle.form.proofs.Params.{argument_count}
 use Rattle.form.proofs.argument_count.Goals as goal
 
 pub returns : goal.returns
-returns c = λ s p. argument_count _ _ _ s p
+returns c = λ s p. rw c.args_at.ensures (argument_count _ _ _ s p)

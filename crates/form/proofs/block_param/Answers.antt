@@ -4,4 +4,4 @@ use Rattle.form.proofs.Params.{param_is}
 use Rattle.form.proofs.block_param.Goals as goal
 
 pub returns : goal.returns
-returns c = λ s p. param_is _ _ _ s p
+returns c = λ s p. rw c.params_at.ensures (param_is _ _ _ s p)

@@ -1,10 +1,8 @@
--- `definition` meets its contract: the cell read is that of the variable and the block, and it says what is recorded there.
+-- `definition` meets its contract: the cell read is that of the variable and the block, and one less than it is what is recorded there.
 -- Assumes nothing.
-use Rattle.form.proofs.Variables.{no_definition, the_definition}
+use Rattle.std.proofs.Common.{rules, tests}
+use Rattle.form.proofs.Variables.{definition_read}
 use Rattle.form.proofs.definition.Goals as goal
 
-pub returns-then-cell-eq0 : goal.returns-then-cell-eq0
-returns-then-cell-eq0 c = λ s p. no_definition _ _ _ s p c.if-cell-eq0.true
-
 pub returns : goal.returns
-returns c = λ s p. the_definition _ _ _ s p c.if-cell-eq0.false
+returns c = λ s p. definition_read _ _ _ s p _ (rw c.def_at.ensures at c.checked_sub.ensures) _ (search (rules, tests))

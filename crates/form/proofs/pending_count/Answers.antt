@@ -4,4 +4,4 @@ use Rattle.form.proofs.Variables.{pending_count, pending_few}
 use Rattle.form.proofs.pending_count.Goals as goal
 
 pub returns : goal.returns
-returns c = (pending_few _ _ c.requires.0 c.requires.1, λ s p. pending_count _ _ s p)
+returns c = rw c.pending_at.ensures (pending_few _ _ c.requires.0 c.requires.1, λ s p. pending_count _ _ s p)

@@ -4,4 +4,4 @@ use Rattle.form.proofs.Variables.{definition_recorded}
 use Rattle.form.proofs.record_def.Goals as goal
 
 pub returns : goal.returns
-returns c = definition_recorded _ _ _ _
+returns c = rw c.def_at.ensures (definition_recorded _ _ _ _)

@@ -4,7 +4,7 @@ use Rattle.graph.proofs.Changes.{dest_room, dest_declared}
 use Rattle.graph.proofs.declare_dest.Goals as goal
 
 pub push-requires : goal.push-requires
-push-requires c = let p = c.requires in dest_room _ p.graph_with.1 p.branch_lt_blocks c.dests_of-at.ensures
+push-requires c = let p = c.requires in dest_room _ p.graph_with.1 p.branch_lt_blocks c.dests_at.ensures
 
 pub returns : goal.returns
-returns c = λ g s. rw c.push.ensures (dest_declared _ s c.requires.branch_lt_blocks c.dests_of-at.ensures _)
+returns c = λ g s. rw c.push.ensures (dest_declared _ s c.requires.branch_lt_blocks c.dests_at.ensures _)

@@ -1,25 +1,15 @@
--- `is_declared` meets its contract: what the destinations from here on say is what all blocks say; at the end none is left.
+-- `is_declared` meets its contract: the closure tells of each destination whether it has the branch, so `any` tells it of all; no other block can have it.
 -- Assumes nothing.
-use Rattle.std.proofs.Common.{arith, sym, ◌∙◌}
-use Rattle.graph.proofs.Declared.{all_named, found_here, not_here, none_left}
+use Rattle.std.proofs.Common.{rules, tests, refl, get_or, ◌∙◌}
+use Rattle.definition.specs.Base.{has}
+use Rattle.layout.proofs.Places.{any_of_places}
+use Rattle.graph.proofs.Declared.{all_named}
 use Rattle.graph.proofs.is_declared.Goals as goal
 
-pub loop-i-init : goal.loop-i-init
-loop-i-init c = (omega arith, λ g s. all_named g s _)
-
-pub returns-then-is_predecessor : goal.returns-then-is_predecessor
-returns-then-is_predecessor c =
-    λ g s.
-    sym (found_here g s _ _ (omega (arith, c.dest_count-n.ensures.value g s)) _ (c.dest-b.ensures.result_value g s) (sym (c.is_predecessor.ensures g s) ∙ c.if-is_predecessor.true))
-    ∙ c.loop-i.invariant.1 g s
-
-pub loop-i-preserved : goal.loop-i-preserved
-loop-i-preserved c = (
-  omega arith,
-  λ g s.
-      not_here g s _ _ (omega (arith, c.dest_count-n.ensures.value g s)) _ (c.dest-b.ensures.result_value g s) (sym (c.is_predecessor.ensures g s) ∙ c.if-is_predecessor.false)
-      ∙ c.loop-i.invariant.1 g s,
-)
-
 pub returns : goal.returns
-returns c = λ g s. sym (none_left g s _ c.loop-i.i (omega (arith, c.dest_count-n.ensures.value g s))) ∙ c.loop-i.invariant.1 g s
+returns c = λ g s.
+    let p = c.args.branch.0 in
+    any_of_places (λ i. has p (g.preds (get_or (g.dests p) i 0))) (λ b. has p (g.preds b)) (g.dests p) _ (c.dest_count-n.ensures.value g s) (λ i lt. refl)
+    _ c.any.ensures.ran (cc)
+    (λ i q k. search (rules, tests)) (λ i q k. search (rules, tests))
+    ∙ all_named g s p

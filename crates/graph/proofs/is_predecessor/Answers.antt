@@ -6,7 +6,7 @@ use Rattle.graph.proofs.Cells.{preds_row, preds_readable}
 use Rattle.graph.proofs.is_predecessor.Goals as goal
 
 pub has-requires : goal.has-requires
-has-requires c = preds_readable c.requires.graph_with.1 _ c.requires.block_lt_blocks c.preds_of-at.ensures
+has-requires c = preds_readable c.requires.graph_with.1 _ c.requires.block_lt_blocks c.preds_at.ensures
 
 pub returns : goal.returns
-returns c = λ g s. c.has.ensures ∙ row_has _ _ _ _ (preds_row s _ c.requires.block_lt_blocks c.preds_of-at.ensures) _
+returns c = λ g s. c.has.ensures ∙ row_has _ _ _ _ (preds_row s _ c.requires.block_lt_blocks c.preds_at.ensures) _

@@ -4,23 +4,23 @@
 use Rattle.lookup.proofs.Copies.{copy_start, copy_low, copy_has, copy_some, copy_falls, copy_next, copy_end}
 use Rattle.lookup.proofs.copy_back.Goals as goal
 
-pub loop-b-init : goal.loop-b-init
-loop-b-init c = copy_start
+pub loop-var-init : goal.loop-var-init
+loop-var-init c = copy_start
 
 pub record_def-requires-clause-ex : goal.record_def-requires-clause-ex
-record_def-requires-clause-ex c = let p = c.requires in (_, copy_has c.loop-b-test.true c.loop-b.invariant p.copy_with.3)
+record_def-requires-clause-ex c = let p = c.requires in (_, copy_has c.loop-var-test.ensures c.loop-var.invariant p.copy_with.3)
 
-pub single_predecessor-single-requires-clause-block_lt_blocks : goal.single_predecessor-single-requires-clause-block_lt_blocks
-single_predecessor-single-requires-clause-block_lt_blocks c = copy_low c.loop-b-test.true c.loop-b.invariant c.requires.copy_with.3
+pub single_predecessor-requires-clause-block_lt_blocks : goal.single_predecessor-requires-clause-block_lt_blocks
+single_predecessor-requires-clause-block_lt_blocks c = copy_low c.loop-var-test.ensures c.loop-var.invariant c.requires.copy_with.3
 
 pub returns-in_default : goal.returns-in_default
-returns-in_default c = λ g s bs h. absurd (copy_some c.loop-b-test.true c.loop-b.invariant h c.in_default.is c.single_predecessor-single.ensures)
+returns-in_default c = λ g s bs h. absurd (copy_some c.loop-var-test.ensures c.loop-var.invariant h c.in_default.is c.single_predecessor.ensures)
 
-pub loop-b-smaller : goal.loop-b-smaller
-loop-b-smaller c = copy_falls c.loop-b-test.true c.loop-b.invariant c.requires.copy_with.3 c.in-Some.is c.single_predecessor-single.ensures
+pub loop-var-smaller : goal.loop-var-smaller
+loop-var-smaller c = copy_falls c.loop-var-test.ensures c.loop-var.invariant c.requires.copy_with.3 c.in-Some.is c.single_predecessor.ensures
 
-pub loop-b-preserved : goal.loop-b-preserved
-loop-b-preserved c = copy_next c.loop-b-test.true c.loop-b.invariant c.in-Some.is c.single_predecessor-single.ensures c.record_def.ensures
+pub loop-var-preserved : goal.loop-var-preserved
+loop-var-preserved c = copy_next c.loop-var-test.ensures c.loop-var.invariant c.in-Some.is c.single_predecessor.ensures c.record_def.ensures
 
 pub returns : goal.returns
-returns c = λ g s bs h. copy_end c.loop-b-test.false c.loop-b.invariant g s bs h
+returns c = λ g s bs h. copy_end c.loop-var-test.ensures c.loop-var.invariant g s bs h

@@ -5,8 +5,8 @@ use Rattle.entity.specs.Limits.{limits}
 use Rattle.lookup.proofs.Copies.{far, Copied}
 use Rattle.lookup.proofs.copy_back.Given as goal
 
-abbrev pub invariant-loop-b : goal.invariant-loop-b
-invariant-loop-b l = Copied l.graph l.initial.form l.from.0 l.var.0 l.val.0 l.initial.b.0 l.form l.b.0
+abbrev pub invariant-loop-var : goal.invariant-loop-var
+invariant-loop-var l = Copied l.graph l.initial.form l.from.0 l.var.0 l.val.0 l.initial.b.0 l.form l.b.0
 
-abbrev pub decreases-loop-b : goal.decreases-loop-b
-decreases-loop-b l = far l.graph l.from.0 limits.blocks l.b.0
+abbrev pub decreases-loop-var : goal.decreases-loop-var
+decreases-loop-var l = far l.graph l.from.0 limits.blocks l.b.0

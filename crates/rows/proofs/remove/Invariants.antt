@@ -5,7 +5,4 @@ use Rattle.layout.specs.Rows.{sift}
 use Rattle.rows.proofs.remove.Given as goal
 
 abbrev pub invariant-loop-i : goal.invariant-loop-i
-invariant-loop-i l = (l.i ≤ l.n) × (l.kept ≤ l.i) × (sift l.at l.x (l.n - l.i) l.i l.kept l.t ≡ sift l.at l.x l.n 0 0 l.initial.t)
-
-abbrev pub decreases-loop-i : goal.decreases-loop-i
-decreases-loop-i l = l.n - l.i
+invariant-loop-i l = (l.kept ≤ l.i) × (sift l.at l.x (l.n - l.i) l.i l.kept l.t ≡ sift l.at l.x l.n 0 0 l.initial.t)

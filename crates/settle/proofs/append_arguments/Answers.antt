@@ -1,11 +1,8 @@
 -- `append_arguments` meets its contract: after each turn one predecessor more has fed its result.
 -- Assumes nothing.
 use Rattle.std.proofs.Common.{arith}
-use Rattle.settle.proofs.Feeds.{feed_all_start, branch_room, feed_all_next, feed_all_end}
+use Rattle.settle.proofs.Feeds.{branch_room, feed_all_next, feed_all_end}
 use Rattle.settle.proofs.append_arguments.Goals as goal
-
-pub loop-i-init : goal.loop-i-init
-loop-i-init c = feed_all_start _ _ _ _ _
 
 pub append_argument-requires : goal.append_argument-requires
 append_argument-requires c =

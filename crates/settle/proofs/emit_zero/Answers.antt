@@ -1,7 +1,6 @@
 -- `emit_zero` meets its contract: the block is placed, the call logged, the first of two steps made, if there are two, and then the zero, in the definition's
 -- order.
 -- Assumes nothing.
-use Rattle.std.proofs.Common.{refl}
 use Rattle.settle.proofs.Settles.{zero_log, zero_emit, zero_make, zero_made}
 use Rattle.settle.proofs.emit_zero.Goals as goal
 
@@ -18,5 +17,5 @@ make-more-requires-clause-ex c =
 pub returns : goal.returns
 returns c =
     λ s h. zero_made _ _ _ _ s h _ c.place_block.ensures _ c.log_zero.ensures _
-    c.value_type-ty.result _ c.emit_step-d.ensures _ _ _
-    c.value_type-ty.ensures.1 c.make-more.ensures refl
+    c.value_type-ty.result _ c.emit_step-d.ensures _ _
+    c.value_type-ty.ensures.1 c.make-more.ensures

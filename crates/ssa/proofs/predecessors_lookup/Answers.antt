@@ -7,14 +7,14 @@ use Rattle.ssa.proofs.predecessors_lookup.Goals as goal
 pub begin_predecessors_lookup-d-requires : goal.begin_predecessors_lookup-d-requires
 begin_predecessors_lookup-d-requires c = let p = c.requires in (p.0, [], [], begin_can p.2)
 
-pub run_state_machine-f-requires : goal.run_state_machine-f-requires
-run_state_machine-f-requires c = let p = c.requires in (p.0, _, _, _, fill_run p.2 c.variable_type-ty.ensures c.begin_predecessors_lookup-d.ensures)
+pub run_state_machine-requires : goal.run_state_machine-requires
+run_state_machine-requires c = let p = c.requires in (p.0, _, _, _, fill_run p.2 c.variable_type-ty.ensures c.begin_predecessors_lookup-d.ensures)
 
 pub returns : goal.returns
 returns c =
     λ g s h.
     let S = c.begin_predecessors_lookup-d.ensures in
-    has_filled h c.variable_type-ty.ensures S (c.run_state_machine-f.ensures g _ _ _ (fill_run h c.variable_type-ty.ensures S)) c.with_values.ensures
+    has_filled h c.variable_type-ty.ensures S (c.run_state_machine.ensures g _ _ _ (fill_run h c.variable_type-ty.ensures S)) c.with_values.ensures
 
 pub variable_type-ty-requires-clause-var_lt_variables : goal.variable_type-ty-requires-clause-var_lt_variables
 variable_type-ty-requires-clause-var_lt_variables c = type_can c.requires.2

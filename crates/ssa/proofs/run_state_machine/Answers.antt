@@ -20,8 +20,8 @@ loop-d-preserved c = runs_next c.loop-d.invariant c.loop-d-test.true c.step-d.en
 pub result-val-requires-clause-some : goal.result-val-requires-clause-some
 result-val-requires-clause-some c = ([], _, take_can c.loop-d.invariant c.requires.4 c.loop-d-test.false)
 
-pub pop_results-e-requires : goal.pop_results-e-requires
-pop_results-e-requires c = one_held c.loop-d.invariant c.requires.4 c.loop-d-test.false
+pub pop_results-requires : goal.pop_results-requires
+pop_results-requires c = one_held c.loop-d.invariant c.requires.4 c.loop-d-test.false
 
 pub returns : goal.returns
-returns c = λ g k x s h. ran c.loop-d.invariant h c.loop-d-test.false c.result-val.ensures _ refl c.pop_results-e.ensures
+returns c = λ g k x s h. ran c.loop-d.invariant h c.loop-d-test.false c.result-val.ensures _ refl c.pop_results.ensures

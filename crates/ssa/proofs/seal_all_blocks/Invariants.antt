@@ -1,7 +1,6 @@
 -- `seal_all_blocks` meets its contract. The loop's invariant: sealing the blocks from b on, in the state that the cells show, is sealing all of them
--- in the first state. The measure is how many are left.
+-- in the first state.
 -- Assumes nothing.
-use Rattle.std.proofs.Common.{◌-◌, ◌≤◌}
 use Rattle.definition.specs.Base.{up_from}
 use Rattle.definition.specs.Form.{Graph, Form}
 use Rattle.definition.specs.Session.{seal_each}
@@ -10,9 +9,6 @@ use Rattle.ssa.proofs.Seals.{ToSeal}
 use Rattle.ssa.proofs.seal_all_blocks.Given as goal
 
 abbrev pub invariant-loop-b : goal.invariant-loop-b
-invariant-loop-b l = (l.b ≤ l.n)
-    × ((g : Graph) (s : Form) → AtRest l.initial.graph l.initial.form l.initial.work l.initial.d g s
-    → ToSeal l.graph l.form l.work l.d l.b l.n (seal_each (up_from 0 g.blocks) g s))
-
-abbrev pub decreases-loop-b : goal.decreases-loop-b
-decreases-loop-b l = l.n - l.b
+invariant-loop-b l =
+    (g : Graph) (s : Form) → AtRest l.initial.graph l.initial.form l.initial.work l.initial.d g s
+    → ToSeal l.graph l.form l.work l.d l.b l.n (seal_each (up_from 0 g.blocks) g s)

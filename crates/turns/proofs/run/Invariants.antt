@@ -1,11 +1,7 @@
 -- `run` meets its contract: after i turns the cells show the session of the first i calls, and at last the stacks' cells are cleared.
 -- Assumes nothing.
-use Rattle.std.proofs.Common.{length, ◌-◌}
 use Rattle.turns.proofs.Runs.{Running}
 use Rattle.turns.proofs.run.Given as goal
 
 abbrev pub invariant-loop-i : goal.invariant-loop-i
-invariant-loop-i l = Running l.kinds l.xs l.ys l.zs l.codes l.numbers l.graph l.form l.work l.c l.i
-
-abbrev pub decreases-loop-i : goal.decreases-loop-i
-decreases-loop-i l = length l.kinds - l.i
+invariant-loop-i l = Running l.asked.kinds.now l.asked.xs.now l.asked.ys.now l.asked.zs.now l.codes l.numbers l.graph l.form l.work l.c l.i

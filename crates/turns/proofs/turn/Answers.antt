@@ -8,10 +8,11 @@ next_call-requires c =
     let p = c.requires in
     let t = p.state_with.0 in
     let h = p.state_with.1 in
-    call_small h p.i_in_bounds p.lined (c.one_call-r.ensures t (c.named_answer-w.ensures t.done h.told h.turns) h.between)
+    call_small h p.i_in_bounds p.lined (rw (← c.new-r.ensures) at (c.one_call-answer.ensures t (c.named_answer-w.ensures t.done h.told h.turns) h.between))
 
 pub returns : goal.returns
 returns c =
     λ t h.
     let p = c.requires in
-    turned_next h p.i_in_bounds p.lined (c.one_call-r.ensures t (c.named_answer-w.ensures t.done h.told h.turns) h.between) c.next_call.ensures
+    turned_next h p.i_in_bounds p.lined (rw (← c.new-r.ensures) at
+    (c.one_call-answer.ensures t (c.named_answer-w.ensures t.done h.told h.turns) h.between)) c.next_call.ensures

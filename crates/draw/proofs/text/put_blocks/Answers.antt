@@ -7,8 +7,7 @@ use Rattle.draw.proofs.text.put_blocks.Goals as goal
 
 pub loop-b-init : goal.loop-b-init
 unfolding each
-loop-b-init c = (omega arith, no_piece, omega arith)
+loop-b-init c = (no_piece, omega arith)
 
 pub loop-b-preserved : goal.loop-b-preserved
-loop-b-preserved c =
-    (omega arith, one_more_up _ _ c.loop-b.invariant.1 (rw c.params-params.ensures.are at c.put_block-a.ensures.wrote), omega arith)
+loop-b-preserved c = (one_more_up _ _ c.loop-b.invariant.0 (rw c.params.ensures.are at c.put_block.ensures.wrote), omega arith)

@@ -7,7 +7,7 @@ use Rattle.draw.proofs.text.put_branches.Goals as goal
 
 pub loop-p-init : goal.loop-p-init
 unfolding each
-loop-p-init c = (omega arith, no_piece, omega arith)
+loop-p-init c = (no_piece, omega arith)
 
 pub loop-p-preserved : goal.loop-p-preserved
-loop-p-preserved c = (omega arith, one_more_up _ _ c.loop-p.invariant.1 c.put_branch-a.ensures.wrote, omega arith)
+loop-p-preserved c = (one_more_up _ _ c.loop-p.invariant.0 c.put_branch.ensures.wrote, omega arith)

@@ -7,7 +7,7 @@ use Rattle.draw.proofs.text.put_dests.Goals as goal
 
 pub loop-i-init : goal.loop-i-init
 unfolding each
-loop-i-init c = (omega arith, no_piece, omega arith)
+loop-i-init c = (no_piece, omega arith)
 
 pub loop-i-preserved : goal.loop-i-preserved
-loop-i-preserved c = (omega arith, one_more_up _ _ c.loop-i.invariant.1 (rw c.args-args.ensures.are at c.put_edge-a.ensures.wrote), omega arith)
+loop-i-preserved c = (one_more_up _ _ c.loop-i.invariant.0 (rw c.args-args.ensures.are at c.put_edge.ensures.wrote), omega arith)

@@ -5,4 +5,4 @@ use Rattle.entity.proofs.Packing.{parts}
 use Rattle.entity.proofs.Described.from_cell.Goals as goal
 
 pub returns : goal.returns
-returns c = parts _ _ refl refl refl
+returns c = parts _ _ refl c.numbered.ensures refl

@@ -1,10 +1,12 @@
 -- `Type::shape` meets its contract: the table's entries are those that the rules give, one by one by computation, and past it there is nothing to know.
 -- Assumes nothing.
+use Rattle.std.proofs.Common.{rules, ◌<◌}
+use Rattle.entity.specs.Types.{type_count}
 use Rattle.entity.proofs.Laws.{in_table, past_table}
 use Rattle.entity.proofs.Type.shape.Goals as goal
 
-pub returns-then-self-lt-COUNT : goal.returns-then-self-lt-COUNT
-returns-then-self-lt-COUNT c = in_table _ _ c.if-self-lt-COUNT.true
+pub returns-in-Some : goal.returns-in-Some
+returns-in-Some c = let n : c.args.self.0 < type_count = search rules in let t = in_table c.in-Some.shape.now _ n in search (rules, t)
 
-pub returns-else-self-lt-COUNT : goal.returns-else-self-lt-COUNT
-returns-else-self-lt-COUNT c = past_table _ c.if-self-lt-COUNT.false
+pub returns-in-None : goal.returns-in-None
+returns-in-None c = past_table _ (search rules)

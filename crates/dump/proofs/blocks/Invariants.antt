@@ -1,7 +1,0 @@
--- `blocks` ends. Each block is one turn.
--- Assumes nothing.
-use Rattle.std.proofs.Common.{◌-◌}
-use Rattle.dump.proofs.blocks.Given as goal
-
-abbrev pub decreases-loop-i : goal.decreases-loop-i
-decreases-loop-i g l = l.k - l.i

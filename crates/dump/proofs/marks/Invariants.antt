@@ -1,7 +1,0 @@
--- `marks` ends. Each variable is one turn.
--- Assumes nothing.
-use Rattle.std.proofs.Common.{◌-◌}
-use Rattle.dump.proofs.marks.Given as goal
-
-abbrev pub decreases-loop-i : goal.decreases-loop-i
-decreases-loop-i g l = l.k - l.i

@@ -1,0 +1,64 @@
+-- A row's entries are one part of the list: whether an entry is in that part is whether the search finds it, and zeros over the count and that part are what
+-- the wiping, cell by cell, leaves.
+-- Assumes nothing.
+use Prim.Native.Nat.{ℕ, zero, suc, ◌+◌, ◌-◌, ◌<◌}
+use mathlib.Core.Logic.{inl, inr}
+use mathlib.Core.Path.{◌≡◌, sym, ap, ◌∙◌}
+use mathlib.Core.List.{List, append_assoc}
+use native.Mathlib.Nat.{add-zero, zero-add}
+use native.Mathlib.Omega.{arith}
+use lib.Dec.{eqb, ltb}
+use borrow.Author.Tests.{eq-eqb, ne_eqb, lt-ltb, le-ltb}
+use borrow.Rule.Slice.PartMut.{put_mid}
+use lib.ListN.{length, get_or, set, take, drop, replicate, length-replicate, length-take, length-drop}
+use lib.Seq.{paste}
+use Rattle.std.proofs.lemmas.List.{drop_more, take_more, take_all, set_at, drop-drop}
+use Rattle.std.proofs.lemmas.List.Edits.{paste_none, fill_from_more}
+use Rattle.std.specs.List.{list_any}
+use Rattle.meaning.proofs.Maps.{same?}
+use Rattle.layout.specs.Rows.{seek, wipe}
+
+module _ (l : List ℕ) (a : ℕ) where
+  -- the m entries from the one at i on
+  part_has : (x m i : ℕ) → a + i + m < length l → list_any (λ y. eqb y x) (take m (drop (a + 1 + i) l)) ≡ ltb (seek l a x m i) (i + m)
+  unfolding seek
+  part_has x zero i h = sym (le-ltb i (i + 0) (omega arith))
+  part_has x (suc m) i h =
+      let here : a + 1 + i < length l = omega arith in
+      let next : a + 1 + i + 1 ≡ a + 1 + (i + 1) = omega arith in
+      let end : i + 1 + m ≡ i + suc m = omega arith in
+      let rest : list_any (λ y. eqb y x) (take m (drop (a + 1 + (i + 1)) l)) ≡ ltb (seek l a x m (i + 1)) (i + 1 + m) = part_has x m (i + 1) (omega arith) in
+      rw (drop_more l (a + 1 + i) 0 here, next) (elim (same? (get_or l (a + 1 + i) 0) x) [
+        | inl e ↦ rw (eq-eqb _ _ e, eq-eqb x (get_or l (a + 1 + i) 0) (sym e)) (sym (lt-ltb i (i + suc m) (omega arith)))
+        | inr d ↦ rw (ne_eqb _ _ d, ne_eqb x (get_or l (a + 1 + i) 0) (λ e. d (sym e)), ← end) rest
+      ])
+
+  pub row_part_has : (x n : ℕ) → a + n < length l → list_any (λ y. eqb y x) (take (a + 1 + n - (a + 1)) (drop (a + 1) l)) ≡ ltb (seek l a x n 0) n
+  row_part_has x n h =
+      let e : a + 1 + n - (a + 1) ≡ n = omega arith in
+      rw e (simp (add-zero, zero-add) at (part_has x n 0 (omega arith)))
+
+  -- of the entries i are zeros already
+  part_wiped : (m i : ℕ) → a + i + m < length l → wipe a m i (paste l (a + 1) (replicate i 0) i) ≡ set (paste l (a + 1) (replicate (i + m) 0) (i + m)) a 0
+  unfolding wipe
+  part_wiped zero i h = rw (add-zero i)
+  part_wiped (suc m) i h =
+      let end : i + 1 + m ≡ i + suc m = omega arith in
+      rw (fill_from_more l (a + 1) i 0 (omega arith), ← end) (part_wiped m (i + 1) (omega arith))
+
+  wiped_all : (n : ℕ) → a + n < length l → wipe a n 0 l ≡ set (paste l (a + 1) (replicate n 0) n) a 0
+  wiped_all n h =
+      let none : l ≡ paste l (a + 1) (replicate 0 0) 0 = paste_none l (a + 1) (replicate 0 0) in
+      let e : 0 + n ≡ n = omega arith in
+      ap (wipe a n 0) none ∙ part_wiped n 0 (omega arith) ∙ ap (λ (k : ℕ). set (paste l (a + 1) (replicate k 0) k) a 0) e
+
+  pub row_part_wiped : (n : ℕ) (zs : List ℕ) → a + n < length l → zs ≡ replicate (length (take (a + 1 + n - a) (drop a l))) 0
+      → put_mid a (a + 1 + n - a) l zs ≡ wipe a n 0 l
+  row_part_wiped n zs h z =
+      let all : a + 1 + n - a ≡ suc n = omega arith in
+      let past : a + 1 + n ≡ a + suc n = omega arith in
+      let zeros : take n (replicate {A = ℕ} n 0) ≡ replicate n 0 = take_all n (replicate n 0) (omega (arith, length-replicate {A = ℕ})) in
+      let low : length (take a l) ≡ a = omega (arith, length-take {A = ℕ} a l) in
+      let many : length (take (suc n) (drop a l)) ≡ suc n = omega (arith, length-take {A = ℕ}, length-drop {A = ℕ}) in
+      rw (wiped_all n h, z, all, many, drop-drop, ← past, zeros, take_more l a 0 (omega arith), append_assoc, append_assoc)
+      (sym (set_at (take a l) (get_or l a 0) _ 0 a low))
