@@ -1,4 +1,5 @@
 // One call over lent cells: each kind has its function, and those that read a variable or seal a block stand here.
+// The tables are lent and the counts go by value, each a parameter of its own: a rule of the project, for the original's `&mut self`.
 #![tactic(auto)]
 
 ghost use Rattle.std.specs.Prelude.{◌≡◌};
@@ -29,8 +30,8 @@ fn use_var(
 {
     let var = reply::known_var(graph, x)?;
     let block = reply::known_block(graph, y)?;
-    let f = ssa::use_var(graph, form, work, c, var, block);
-    reply::accept(f.0.0, f.1)
+    let (val, d) = ssa::use_var(graph, form, work, c, var, block);
+    reply::accept(val.0, d)
 }
 
 // Kind 11. The answer counts the zeros that the log has more.

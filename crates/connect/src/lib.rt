@@ -1,4 +1,5 @@
 // The kinds of call that connect blocks, or ask about that: destinations, predecessors. The checks of docs/RULES.md in its order, then the change.
+// The tables are lent and the counts go by value, each a parameter of its own: a rule of the project, for the original's `&mut self`.
 #![tactic(auto)]
 
 ghost use Rattle.std.specs.Prelude.{◌≡◌, ◌<◌, List, ℕ, IfOk};

@@ -1,5 +1,6 @@
 // The kinds of call that bring something in: blocks, variables, values, definitions, branches, a caller's parameters and their arguments, a variable's mark.
 // The checks of docs/RULES.md in its order, then the change.
+// The tables are lent and the counts go by value, each a parameter of its own: a rule of the project, for the original's `&mut self`.
 #![tactic(auto)]
 
 ghost use Rattle.std.specs.Prelude.{not, ◌||◌, List, ◌≡◌, ℕ, ◌<◌, length};

@@ -4,7 +4,7 @@
 ghost use Rattle.std.specs.Prelude.{◌≡◌, drop};
 ghost use Rattle.alias.specs.Answer.{code_of as resolved_code, number_of as resolved_number};
 ghost use Rattle.definition.specs.Resolve.{Resolved};
-ghost use Rattle.draw.specs.Draws.{Draws};
+ghost use Rattle.draw.specs.Draws.{Draws, told_code, told_length};
 ghost use Rattle.layout.specs.Outcome.{lent};
 ghost use Rattle.reader.specs.Marks.{IsRecorded, mark_code, mark_number, next_of};
 ghost use Rattle.reader.specs.Rows.{Located, span_code, span_length, span_start};
@@ -13,6 +13,7 @@ ghost use Rattle.session.specs.Ends.{Ended};
 ghost use Rattle.exports.specs.Told.{TypeTold, told};
 
 use alias::Unresolved;
+use draw::Undrawn;
 use entity::{Block, Branch, Type, Value};
 use reader::{Asked, Span};
 
@@ -47,7 +48,7 @@ const TOLD: [u32; 13] = [
     entity::OWN_PARAMS,
 ];
 
-// Code and number of an answer, as C sees them.
+// Code and number of an answer, as C sees them: it has no Option and no Result.
 #[repr(C)]
 #[derive(Clone, Copy)]
 pub struct SangvirebAnswer {
@@ -129,6 +130,20 @@ pub struct SangvirebDrawn {
     pub length: usize,
 }
 
+impl From<Result<usize, Undrawn>> for SangvirebDrawn {
+    ghost from_gives = { λ r d. (d.code ≡ told_code r) × (d.length ≡ told_length r) };
+
+    fn from(drawn: Result<usize, Undrawn>) -> SangvirebDrawn {
+        match drawn {
+            Ok(length) => SangvirebDrawn { code: OK, length },
+            Err(why) => SangvirebDrawn {
+                code: why.code(),
+                length: 0,
+            },
+        }
+    }
+}
+
 // A type, as C sees it: the number of its lane's type, how many lanes, the width in bytes; where a zero takes two steps, the number of the first one's type
 // plus one, else 0; the bits of its unset value, which a zero holds, the low 64 and the high 64.
 #[repr(C)]
@@ -140,6 +155,22 @@ pub struct SangvirebType {
     pub step: u32,
     pub low: u64,
     pub high: u64,
+}
+
+impl From<Type> for SangvirebType {
+    ghost from_gives = { λ t r. TypeTold t.0 r };
+
+    fn from(t: Type) -> SangvirebType {
+        let bits = t.unset_bits();
+        SangvirebType {
+            lane: t.lane().0,
+            lanes: t.lanes(),
+            width: t.width(),
+            step: t.step_plus_one(),
+            low: bits.low,
+            high: bits.high,
+        }
+    }
 }
 
 // A session over lent lists: crates/session says what it answers and leaves.
@@ -210,13 +241,7 @@ pub extern "C" fn sangvireb_next_recorded(described: &[u32], from: usize) -> usi
 pub extern "C" fn sangvireb_draw(graph: &[u32], form: &[u32], buffer: &mut [u8]) -> SangvirebDrawn
     ensures { Draws graph.now form.now buffer.old buffer.new result.code result.length }
 {
-    match draw::draw(graph, form, buffer) {
-        Ok(length) => SangvirebDrawn { code: 0, length },
-        Err(e) => SangvirebDrawn {
-            code: e.code(),
-            length: 0,
-        },
-    }
+    draw::draw(graph, form, buffer).into()
 }
 
 // What there is to know of a type, by its number. A number that names no type has no lanes, no width and no bits.
@@ -224,16 +249,7 @@ pub extern "C" fn sangvireb_draw(graph: &[u32], form: &[u32], buffer: &mut [u8])
 pub extern "C" fn sangvireb_type(ty: u32) -> SangvirebType
     ensures { TypeTold ty result }
 {
-    let t = Type(ty);
-    let bits = t.unset_bits();
-    SangvirebType {
-        lane: t.lane().0,
-        lanes: t.lanes(),
-        width: t.width(),
-        step: t.step_plus_one(),
-        low: bits.low,
-        high: bits.high,
-    }
+    Type(ty).into()
 }
 
 // Tells a host what this library was built for. The places keep their meaning from version to version; a place past them gets 0.

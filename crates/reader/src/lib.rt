@@ -4,7 +4,7 @@
 
 ghost use Rattle.std.specs.Prelude.{◌≡◌, ◌<◌, ◌^◌, drop};
 ghost use Rattle.reader.specs.Marks.{IsRecorded, mark_code, mark_number, next_of};
-ghost use Rattle.reader.specs.Rows.{FindsRow, IsRow, Located, named, number, span_code, span_length, span_start, table_of};
+ghost use Rattle.reader.specs.Rows.{FindsRow, IsRow, Located, code_of, named, number, span_code, span_length, span_start, table_of};
 
 use entity::{Block, Branch, Described, Value};
 
@@ -80,6 +80,16 @@ pub fn find_row<'a>(params: &'a [u32], args: &'a [u32], asked: Asked) -> Option<
     let table = table_of(params, args, asked);
     let span = locate(table, asked)?;
     Some(&table[span.start..span.start + span.length])
+}
+
+// 6 if there is no such row, else 0: the code by which docs/RULES.md tells the two apart.
+pub fn row_code(params: &[u32], args: &[u32], asked: Asked) -> u32
+    ensures { result ≡ code_of (table_of params.entry args.entry asked).now asked }
+{
+    match find_row(params, args, asked) {
+        Some(_) => 0,
+        None => 6,
+    }
 }
 
 // The row itself; an empty part, from the table's beginning, if there is no such row.

@@ -73,7 +73,7 @@ pub fn accept(number: u32, counts: Counts) -> Result<Accepted, Refusal>
     Ok(Accepted { number, counts })
 }
 
-// What is written of a call, and the counts after it.
+// What is written of a call, a number for its code beside its number, as the lists that C lends have it; and the counts after it.
 #[derive(Clone, Copy)]
 pub struct Reply {
     pub code: u32,
@@ -101,7 +101,8 @@ impl Reply {
     }
 }
 
-// Blocks are numbered from 0 without a gap, so those that are there are below their count.
+// Blocks are numbered from 0 without a gap, so those that are there are below their count. (Each kind of number has a check of its own, two lines long: one
+// for all would take the count and the type, and its promise would be longer than these.)
 pub fn known_block(graph: &[u32], b: u32) -> Result<Block, Refusal>
     requires { GraphWith (Seen graph.now) }
     ensures { MatchResult result (λ block. Found graph.now b limits.blocks block.0 no_block) (λ e. Lost graph.now b e no_block) }

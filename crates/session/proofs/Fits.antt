@@ -15,7 +15,7 @@ use Rattle.definition.specs.Whole.{calls, needs, short, unfit, whole_answer}
 use Rattle.layout.specs.Outcome.{Lent, SameLists, lengths, shown, past, followed_by}
 use Rattle.layout.proofs.Outcome.{Fits, fits, by_tests}
 use Rattle.reply.proofs.Answered.{tested}
-use Rattle.turns.specs.Turns.{Lined, Exact}
+use Rattle.turns.specs.Lists.{Exact}
 use Rattle.session.specs.Ends.{Ended}
 
 module _ (ks xs ys zs : List ℕ) (t : Lent) where
@@ -57,16 +57,6 @@ pub back : (n : ℕ) (l u : List ℕ) → n ≤ length l → length u ≡ length
 back n l u h e = length-append u (drop n l) ∙ omega (arith, e, length-take-le n l h, length-drop n l)
 
 module _ {ks xs ys zs : List ℕ} {t : Lent} (h : Fits ks xs ys zs t) where
-  pub lined : Lined (length ks) xs ys zs (take (length ks) t.codes) (take (length ks) t.numbers)
-  lined = record {
-    few = h.few;
-    xs_long = h.xs_fit;
-    ys_long = h.ys_fit;
-    zs_long = h.zs_fit;
-    codes_long = length-take-le (length ks) t.codes h.codes_fit;
-    numbers_long = length-take-le (length ks) t.numbers h.numbers_fit;
-  }
-
   pub exact : Exact (take (graph_need limits) t.graph) (take (form_need limits) t.form) (take (work_need limits) t.work)
   exact = record {
     graph_exact = length-take-le (graph_need limits) t.graph h.graph_fit;

@@ -7,7 +7,7 @@ ghost use Rattle.layout.specs.Outcome.{lent};
 ghost use Rattle.session.specs.Answer.{code_of, refusal_code};
 ghost use Rattle.session.specs.Ends.{long, Ended};
 
-use turns::Calls;
+use turns::lists::Calls;
 
 // Why a session isn't run: a lent list is shorter than its need, or the call lists don't fit together.
 #[derive(Clone, Copy, Debug, PartialEq, Eq)]

@@ -85,9 +85,6 @@ module _ (gl fl₀ wl₀ : List ℕ) (c₀ : Counts) (v ty : ℕ) where
   abbrev pub Running : List ℕ → List ℕ → Counts → Type 0
   Running fl wl c = (g : Graph) (k : Conf) (x : ℕ) (s : Form) → CanRun gl fl₀ wl₀ c₀ v ty g k x s → (at : Conf) × CanRun gl fl wl c v ty g at x s
 
-  pub runs_start : Running fl₀ wl₀ c₀
-  runs_start g k x s h = (k, h)
-
 module _ {gl fl₀ wl₀ : List ℕ} {c₀ : Counts} {v ty : ℕ} {fl wl : List ℕ} {c : Counts} (R : Running gl fl₀ wl₀ c₀ v ty fl wl c) where
   module _ {g : Graph} {k : Conf} {x : ℕ} {s : Form} (h : CanRun gl fl₀ wl₀ c₀ v ty g k x s) where
     abbrev at : Conf

@@ -24,10 +24,8 @@ use Rattle.meaning.proofs.Sealing.{idle}
 use Rattle.meaning.proofs.Steady.{Steady, steady_rooms, steady_seal, sound_then, bounds_then, seal_rests}
 use Rattle.layout.specs.declared.Counts.{Counts}
 use Rattle.layout.specs.Layout.{Graphs, Shown}
-use Rattle.graph.specs.Seen.{Seen}
 use Rattle.form.specs.Can.{HasPending, Taken, Lists, NextParam}
 use Rattle.ssa.specs.Use.{AtRest, CanFill, HasFilled, CanSeal, HasSealed, Marked}
-use Rattle.ssa.proofs.Uses.{seen_of}
 
 -- ---- the pending variables of a block
 
@@ -163,16 +161,6 @@ pub record ToSeal (gl fl wl : List ℕ) (c : Counts) (b n : ℕ) (r : Graph × F
   pub rest : AtRest gl fl wl c graph form
   pub count : n ≡ graph.blocks
   pub all : seal_each (up_from b (n - b)) graph form ≡ r
-
-module _ {gl fl wl : List ℕ} {c : Counts} {g : Graph} {s : Form} (h : AtRest gl fl wl c g s) where
-  pub all_seen : Seen gl g
-  all_seen = seen_of h.graph h.steady
-
-  pub to_seal_all : {n : ℕ} → ((g : Graph) → Seen gl g → n ≡ g.blocks) → ToSeal gl fl wl c 0 n (seal_each (up_from 0 g.blocks) g s)
-  to_seal_all {n} is =
-      let e = is g all_seen in
-      let k : n - 0 ≡ g.blocks = omega (arith, e) in
-      record { graph = g; form = s; rest = h; count = e; all = ap (λ (m : ℕ). seal_each (up_from 0 m) g s) k }
 
 module _ {gl fl wl : List ℕ} {c : Counts} {b n : ℕ} {r : Graph × Form} (h : ToSeal gl fl wl c b n r) where
   module _ (lt : b < n) where

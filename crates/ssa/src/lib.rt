@@ -174,9 +174,7 @@ fn step(
         → UnderWay graph.now form.old work.old c var.0 ty g (conf (q ∷ ts) rs s)
         → UnderWay graph.now form.new work.new result var.0 ty g (turn g var.0 (q ∷ ts) rs s) }
 {
-    let popped = work::pop_call(work, c);
-    let call = popped.0;
-    let d = popped.1;
+    let (call, d) = work::pop_call(work, c);
     match call {
         Call::UseVar(branch) => lookup::use_var_nonlocal(
             graph,

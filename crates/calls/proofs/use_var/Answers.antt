@@ -23,5 +23,5 @@ returns c =
     let b = c.in_ok-block.ensures in
     let known = v.there _ t.form (seen_of h) in
     let placed = b.there _ t.form (seen_of h) in
-    let u = c.use_var-f.ensures _ _ (read_can h (named known) (named placed)) in
+    let u = c.use_var.ensures _ _ (read_can h (named known) (named placed)) in
     rw (← v.same, ← b.same, known, placed) (taken_on _ _ c.accept.ensures u.val u.rest)

@@ -12,7 +12,10 @@ pub append_block_param-d-requires-clause-ex : goal.append_block_param-d-requires
 append_block_param-d-requires-clause-ex c = let p = c.requires in (p.1, append_can p.4 (c.walk-value.ensures _ _ (walk_can p.4.asks)) c.in_default.is)
 
 pub record_def-requires-clause-ex : goal.record_def-requires-clause-ex
-record_def-requires-clause-ex c = let p = c.requires in let w = c.walk-value.ensures _ _ (walk_can p.4.asks) in (_, record_has p.4 w c.in_default.is c.append_block_param-d.ensures)
+record_def-requires-clause-ex c =
+    let p = c.requires in
+    let w = c.walk-value.ensures _ _ (walk_can p.4.asks) in
+    (_, record_has p.4 w c.in_default.is c.append_block_param-d.ensures)
 
 pub record_stack_map_binding-requires : goal.record_stack_map_binding-requires
 record_stack_map_binding-requires c =
@@ -23,7 +26,9 @@ pub is_sealed-requires-clause-block_lt_blocks : goal.is_sealed-requires-clause-b
 is_sealed-requires-clause-block_lt_blocks c = let p = c.requires in block_low p.4 (c.walk-value.ensures _ _ (walk_can p.4.asks))
 
 pub begin_predecessors_lookup-e-requires : goal.begin_predecessors_lookup-e-requires
-begin_predecessors_lookup-e-requires c = let p = c.requires in (p.0, p.2, p.3, begin_can p.4 (c.walk-value.ensures _ _ (walk_can p.4.asks)) c.in_default.is c.append_block_param-d.ensures)
+begin_predecessors_lookup-e-requires c =
+    let p = c.requires in
+    (p.0, p.2, p.3, begin_can p.4 (c.walk-value.ensures _ _ (walk_can p.4.asks)) c.in_default.is c.append_block_param-d.ensures)
 
 pub returns-then-is_sealed : goal.returns-then-is_sealed
 returns-then-is_sealed c =

@@ -17,7 +17,10 @@ pub definition-requires : goal.definition-requires
 definition-requires c = let p = c.requires in (p.1, step_has c.loop-pred.invariant.0 c.loop-pred.invariant.2 c.in-Some.is c.single_predecessor.ensures p.2)
 
 pub returns-in-Some-definition : goal.returns-in-Some-definition
-returns-in-Some-definition c = λ g s p. stop_found c.loop-pred.invariant.0 c.loop-pred.invariant.2 c.in-Some.is c.single_predecessor.ensures c.if-visited-i.false c.in-Some-definition.is c.definition.ensures _ refl refl g s p
+returns-in-Some-definition c =
+    λ g s p.
+    stop_found c.loop-pred.invariant.0 c.loop-pred.invariant.2 c.in-Some.is c.single_predecessor.ensures c.if-visited-i.false c.in-Some-definition.is
+    c.definition.ensures _ refl refl g s p
 
 pub loop-pred-smaller : goal.loop-pred-smaller
 loop-pred-smaller c = unmarked_falls c.loop-pred.visited _ _ c.loop-pred.invariant.0 (omega arith) c.if-visited-i.false

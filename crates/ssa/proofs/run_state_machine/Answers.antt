@@ -2,11 +2,8 @@
 -- The measure is what is scheduled, and what could still be: each turn lowers it.
 -- Assumes nothing.
 use Rattle.std.proofs.Common.{[], refl}
-use Rattle.ssa.proofs.Runs.{runs_start, turn_can, runs_next, run_falls, take_can, one_held, ran}
+use Rattle.ssa.proofs.Runs.{turn_can, runs_next, run_falls, take_can, one_held, ran}
 use Rattle.ssa.proofs.run_state_machine.Goals as goal
-
-pub loop-d-init : goal.loop-d-init
-loop-d-init c = runs_start _ _ _ _ _ _
 
 pub step-d-requires : goal.step-d-requires
 step-d-requires c = let p = c.requires in (p.0, _, _, _, _, turn_can c.loop-d.invariant p.4 c.loop-d-test.true)

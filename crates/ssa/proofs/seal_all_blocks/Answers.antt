@@ -1,11 +1,8 @@
 -- `seal_all_blocks` meets its contract. The loop's invariant: sealing the blocks from b on, in the state that the cells show, is sealing all of them
 -- in the first state.
 -- Assumes nothing.
-use Rattle.ssa.proofs.Seals.{to_seal_all, next_can, to_seal_next, all_sealed}
+use Rattle.ssa.proofs.Seals.{next_can, to_seal_next, all_sealed}
 use Rattle.ssa.proofs.seal_all_blocks.Goals as goal
-
-pub loop-b-init : goal.loop-b-init
-loop-b-init c = λ g s h. to_seal_all h c.block_count-n.ensures.value
 
 pub seal_one_block-d-requires : goal.seal_one_block-d-requires
 seal_one_block-d-requires c = let p = c.requires in (_, _, next_can (c.loop-b.invariant p.0 p.1 p.2) c.loop-b-test.true)

@@ -4,4 +4,4 @@ use Rattle.turns.proofs.Runs.{Running}
 use Rattle.turns.proofs.run.Given as goal
 
 abbrev pub invariant-loop-i : goal.invariant-loop-i
-invariant-loop-i l = Running l.asked.kinds.now l.asked.xs.now l.asked.ys.now l.asked.zs.now l.codes l.numbers l.graph l.form l.work l.c l.i
+invariant-loop-i l = Running l.asked l.initial.answers l.answers l.graph l.form l.work l.c l.i

@@ -3,8 +3,8 @@
 use Rattle.std.proofs.Common.{arith, eq-eqb, ne_eqb, ◌<◌, get_or, refl, sym, ◌∙◌}
 use lib.Seq.{get_or-take, length-take-le}
 use Rattle.turns.proofs.Told.{not_yet, the_use}
-use Rattle.turns.proofs.answered.Goals as goal
-use Rattle.turns.proofs.answered.Goals.{then-kind-number, else-kind-number}
+use Rattle.turns.proofs.lists.Answers.answered.Goals as goal
+use Rattle.turns.proofs.lists.Answers.answered.Goals.{then-kind-number, else-kind-number}
 
 pub returns-in_err-kind : goal.returns-in_err-kind
 returns-in_err-kind c =
