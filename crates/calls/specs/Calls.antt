@@ -25,5 +25,6 @@ pub record Replied (gl fl wl : List ℕ) (r : Reply) (g : Graph) (s : Form) (d :
   pub idle : Piles wl [] []
 
 -- for each state that the cells show, a answers the reply f
-abbrev pub Answers : List ℕ → List ℕ → List ℕ → List ℕ → List ℕ → List ℕ → Counts → Result Accepted Refusal → (Graph → Form → Defined) → Type 0
+abbrev pub Answers : List ℕ → List ℕ → List ℕ → List ℕ → List ℕ → List ℕ → Counts → Result Accepted Refusal
+    → (Graph → Form → Defined) → Type 0
 Answers gl fl wl gl' fl' wl' c a f = (t : State) → Between gl fl wl c t → Replied gl' fl' wl' (reply_of c a) t.graph t.form (f t.graph t.form)

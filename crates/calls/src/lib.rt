@@ -9,6 +9,7 @@ ghost use Rattle.reply.specs.Replies.{reply_of};
 ghost use Rattle.calls.specs.Calls.{StateWith, Between, Answers, Replied};
 
 use entity::Value;
+use graph::GraphCells;
 use kind::Kind;
 use layout::Counts;
 use reply::{Accepted, Refusal};
@@ -17,7 +18,7 @@ pub mod kind;
 
 // Kind 6.
 fn use_var(
-    graph: &[u32],
+    graph: &GraphCells,
     form: &mut [u32],
     work: &mut [u32],
     c: Counts,
@@ -46,8 +47,9 @@ fn seal_block(
     ensures { Answers graph.old form.old work.old graph.new form.new work.new c result
         (λ g s. seal g s x) }
 {
-    let block = reply::known_block(graph, x)?;
-    if graph::is_sealed(graph, block) {
+    let cells = GraphCells { cells: graph };
+    let block = reply::known_block(&cells, x)?;
+    if cells.is_sealed(block) {
         return Err(Refusal::Sealed);
     }
     let n = form::zero_count(form);
@@ -90,23 +92,24 @@ pub fn one_call(
         → Between graph.old form.old work.old c t
         → Replied graph.new form.new work.new (reply_of c result) t.graph t.form (reply t.graph t.form t.done x y z kind) }
 {
+    let cells = GraphCells { cells: graph };
     match Kind::try_from(kind)? {
         Kind::DeclareBlock => declare::declare_block(graph, form, c, x),
         Kind::DeclareVar => declare::declare_var(graph, c, x, y),
-        Kind::MakeValue => declare::make_value(graph, form, c, x, y),
-        Kind::Define => declare::define(graph, form, c, x, y, z),
-        Kind::DefineAnswer => declare::define_answer(graph, form, c, x, z, w),
-        Kind::UseVar => use_var(graph, form, work, c, x, y),
+        Kind::MakeValue => declare::make_value(&cells, form, c, x, y),
+        Kind::Define => declare::define(&cells, form, c, x, y, z),
+        Kind::DefineAnswer => declare::define_answer(&cells, form, c, x, z, w),
+        Kind::UseVar => use_var(&cells, form, work, c, x, y),
         Kind::NewBranch => declare::new_branch(graph, form, c, x),
         Kind::NewDest => connect::new_dest(graph, c, x, y),
         Kind::AddPred => connect::add_pred(graph, c, x, y),
         Kind::DropPred => connect::drop_pred(graph, c, x, y),
         Kind::SealBlock => seal_block(graph, form, work, c, x),
         Kind::SealAllBlocks => seal_all_blocks(graph, form, work, c),
-        Kind::HasAnyPredecessors => connect::has_any_predecessors(graph, c, x),
-        Kind::IsSealed => connect::is_sealed(graph, c, x),
-        Kind::OwnParam => declare::own_param(graph, form, c, x, y),
-        Kind::GiveArg => declare::give_arg(graph, form, c, x, y, z),
+        Kind::HasAnyPredecessors => connect::has_any_predecessors(&cells, c, x),
+        Kind::IsSealed => connect::is_sealed(&cells, c, x),
+        Kind::OwnParam => declare::own_param(&cells, form, c, x, y),
+        Kind::GiveArg => declare::give_arg(&cells, form, c, x, y, z),
         Kind::MarkVar => declare::mark_var_needs_stack_map(graph, form, c, x),
     }
 }

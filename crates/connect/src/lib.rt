@@ -6,11 +6,12 @@ ghost use Rattle.std.specs.Prelude.{◌≡◌, ◌<◌, List, ℕ, IfOk};
 ghost use Rattle.entity.specs.Limits.{limits};
 ghost use Rattle.definition.specs.Form.{Graph, Form};
 ghost use Rattle.definition.specs.Session.{Reply as Defined, new_dest, add_pred, drop_pred, any_preds, is_sealed};
-ghost use Rattle.graph.specs.Seen.{GraphWith, Seen};
+ghost use Rattle.graph.specs.Seen.{Seen};
 ghost use Rattle.reply.specs.Replies.{SomeState, Answers};
 ghost use Rattle.connect.specs.Checks.{checked, pred_checked};
 
 use entity::{Block, Branch};
+use graph::GraphCells;
 use layout::Counts;
 use reply::{Accepted, Refusal};
 
@@ -19,10 +20,11 @@ pub fn new_dest(graph: &mut [u32], c: Counts, x: u32, y: u32) -> Result<Accepted
     requires { (form : List ℕ) × SomeState graph.old form c }
     ensures { (form : List ℕ) → Answers graph.old form graph.new form c result (λ g s. new_dest g s x y) }
 {
-    let branch = reply::known_branch(graph, x)?;
-    let block = reply::known_block(graph, y)?;
-    let declared = graph::is_declared(graph, branch);
-    let n = graph::dest_count(graph, branch);
+    let cells = GraphCells { cells: graph };
+    let branch = reply::known_branch(&cells, x)?;
+    let block = reply::known_block(&cells, y)?;
+    let declared = cells.is_declared(branch);
+    let n = cells.dest_count(branch);
     if declared {
         return Err(Refusal::Declared);
     }
@@ -34,15 +36,14 @@ pub fn new_dest(graph: &mut [u32], c: Counts, x: u32, y: u32) -> Result<Accepted
 }
 
 // What declaring a predecessor and removing it ask first: the block and the branch are there, and the block is not sealed.
-fn check_pred(graph: &[u32], x: u32, y: u32) -> Result<(Block, Branch), Refusal>
-    requires { GraphWith (Seen graph.now) }
+fn check_pred(graph: &GraphCells, x: u32, y: u32) -> Result<(Block, Branch), Refusal>
     ensures block { IfOk result (λ p. (p.0.0 ≡ x) × (p.0.0 < limits.blocks)) }
     ensures branch { IfOk result (λ p. (p.1.0 ≡ y) × (p.1.0 < limits.blocks)) }
     ensures d_value { (g : Graph) → (s : Form) → Seen graph.now g → (d : Defined) → checked result d ≡ pred_checked g s x y d }
 {
     let block = reply::known_block(graph, x)?;
     let branch = reply::known_branch(graph, y)?;
-    if graph::is_sealed(graph, block) {
+    if graph.is_sealed(block) {
         return Err(Refusal::Sealed);
     }
     Ok((block, branch))
@@ -53,14 +54,15 @@ pub fn add_pred(graph: &mut [u32], c: Counts, x: u32, y: u32) -> Result<Accepted
     requires { (form : List ℕ) × SomeState graph.old form c }
     ensures { (form : List ℕ) → Answers graph.old form graph.new form c result (λ g s. add_pred g s x y) }
 {
-    let (block, branch) = check_pred(graph, x, y)?;
-    if !graph::names(graph, branch, block) {
+    let cells = GraphCells { cells: graph };
+    let (block, branch) = check_pred(&cells, x, y)?;
+    if !cells.names(branch, block) {
         return Err(Refusal::Unrelated);
     }
-    if graph::is_predecessor(graph, block, branch) {
+    if cells.is_predecessor(block, branch) {
         return Err(Refusal::DeclaredHere);
     }
-    let n = graph::predecessor_count(graph, block);
+    let n = cells.predecessor_count(block);
     graph::declare_block_predecessor(graph, block, branch);
     reply::accept(n + 1, c)
 }
@@ -70,8 +72,9 @@ pub fn drop_pred(graph: &mut [u32], c: Counts, x: u32, y: u32) -> Result<Accepte
     requires { (form : List ℕ) × SomeState graph.old form c }
     ensures { (form : List ℕ) → Answers graph.old form graph.new form c result (λ g s. drop_pred g s x y) }
 {
-    let (block, branch) = check_pred(graph, x, y)?;
-    if !graph::is_predecessor(graph, block, branch) {
+    let cells = GraphCells { cells: graph };
+    let (block, branch) = check_pred(&cells, x, y)?;
+    if !cells.is_predecessor(block, branch) {
         return Err(Refusal::Unrelated);
     }
     let place = graph::remove_block_predecessor(graph, block, branch);
@@ -79,19 +82,19 @@ pub fn drop_pred(graph: &mut [u32], c: Counts, x: u32, y: u32) -> Result<Accepte
 }
 
 // Kind 13. An unknown block is refused, where the original says no.
-pub fn has_any_predecessors(graph: &[u32], c: Counts, x: u32) -> Result<Accepted, Refusal>
+pub fn has_any_predecessors(graph: &GraphCells, c: Counts, x: u32) -> Result<Accepted, Refusal>
     requires { (form : List ℕ) × SomeState graph.now form c }
     ensures { (form : List ℕ) → Answers graph.now form graph.now form c result (λ g s. any_preds g s x) }
 {
     let block = reply::known_block(graph, x)?;
-    reply::accept(u32::from(graph::predecessor_count(graph, block) != 0), c)
+    reply::accept(u32::from(graph.predecessor_count(block) != 0), c)
 }
 
 // Kind 14. An unknown block is refused, where the original says no.
-pub fn is_sealed(graph: &[u32], c: Counts, x: u32) -> Result<Accepted, Refusal>
+pub fn is_sealed(graph: &GraphCells, c: Counts, x: u32) -> Result<Accepted, Refusal>
     requires { (form : List ℕ) × SomeState graph.now form c }
     ensures { (form : List ℕ) → Answers graph.now form graph.now form c result (λ g s. is_sealed g s x) }
 {
     let block = reply::known_block(graph, x)?;
-    reply::accept(u32::from(graph::is_sealed(graph, block)), c)
+    reply::accept(u32::from(graph.is_sealed(block)), c)
 }

@@ -9,11 +9,12 @@ ghost use Rattle.entity.specs.Options.{value_of};
 ghost use Rattle.definition.specs.Base.{◌=?◌};
 ghost use Rattle.definition.specs.Form.{Graph, Form};
 ghost use Rattle.definition.specs.Session.{declare_block, declare_var, make_value, define, define_answer, new_branch, own_param, give_arg, mark_var};
-ghost use Rattle.graph.specs.Seen.{GraphWith, Seen};
+ghost use Rattle.graph.specs.Seen.{Seen};
 ghost use Rattle.form.specs.Can.{Ex, HasPending};
 ghost use Rattle.reply.specs.Replies.{SomeState, Answers};
 
 use entity::{Block, Branch, Sort, Value, Variable};
+use graph::GraphCells;
 use layout::Counts;
 use reply::{Accepted, Refusal};
 
@@ -27,10 +28,11 @@ pub fn declare_block(
     requires { SomeState graph.old form.old c }
     ensures { Answers graph.old form.old graph.new form.new c result (λ g s. declare_block g s x) }
 {
+    let cells = GraphCells { cells: graph };
     if entity::BLOCKS <= x {
         return Err(Refusal::Full);
     }
-    let known = graph::block_count(graph);
+    let known = cells.block_count();
     if known < x {
         return Err(Refusal::Skips);
     }
@@ -50,16 +52,17 @@ pub fn declare_var(graph: &mut [u32], c: Counts, x: u32, y: u32) -> Result<Accep
     requires { (form : List ℕ) × SomeState graph.old form c }
     ensures { (form : List ℕ) → Answers graph.old form graph.new form c result (λ g s. declare_var g s x y) }
 {
+    let cells = GraphCells { cells: graph };
     if entity::VARIABLES <= x {
         return Err(Refusal::Full);
     }
-    let n = graph::variable_count(graph);
+    let n = cells.variable_count();
     if n < x {
         return Err(Refusal::Skips);
     }
     let ty = reply::known_type(y)?;
     if x < n {
-        if graph::variable_type(graph, Variable(x)) != ty.0 {
+        if cells.variable_type(Variable(x)) != ty.0 {
             return Err(Refusal::OtherType);
         }
         return reply::accept(x, c);
@@ -70,7 +73,7 @@ pub fn declare_var(graph: &mut [u32], c: Counts, x: u32, y: u32) -> Result<Accep
 
 // Kind 3. A block's first value places it; after its branch a block takes no more.
 pub fn make_value(
-    graph: &[u32],
+    graph: &GraphCells,
     form: &mut [u32],
     c: Counts,
     x: u32,
@@ -81,7 +84,7 @@ pub fn make_value(
 {
     let block = reply::known_block(graph, x)?;
     let ty = reply::known_type(y)?;
-    if graph::has_branch(graph, block) {
+    if graph.has_branch(block) {
         return Err(Refusal::Branched);
     }
     if entity::MADE <= form::made_count(form) {
@@ -95,7 +98,7 @@ pub fn make_value(
 
 // Kind 4. The value is stored as it is, an alias too. Uses beyond a branch that was declared have read the block's definitions, so it takes no more.
 pub fn define(
-    graph: &[u32],
+    graph: &GraphCells,
     form: &mut [u32],
     c: Counts,
     x: u32,
@@ -108,20 +111,20 @@ pub fn define(
     let var = reply::known_var(graph, x)?;
     let val = reply::known_value(c, y)?;
     let block = reply::known_block(graph, z)?;
-    if form::value_type(form, val) != graph::variable_type(graph, var) {
+    if form::value_type(form, val) != graph.variable_type(var) {
         return Err(Refusal::OtherType);
     }
-    if graph::ever_declared(graph, Branch::from(block)) {
+    if graph.ever_declared(Branch::from(block)) {
         return Err(Refusal::Late);
     }
     form::record_def(form, var, block, val);
-    form::record_stack_map_binding(form, graph::is_marked(graph, var), val);
+    form::record_stack_map_binding(form, graph.is_marked(var), val);
     reply::accept(y, c)
 }
 
 // Kind 5. The value comes from an earlier call: w is that use's answer, and none where the call was no accepted use.
 pub fn define_answer(
-    graph: &[u32],
+    graph: &GraphCells,
     form: &mut [u32],
     c: Counts,
     x: u32,
@@ -146,8 +149,9 @@ pub fn new_branch(
     requires { SomeState graph.old form.old c }
     ensures { Answers graph.old form.old graph.new form.new c result (λ g s. new_branch g s x) }
 {
-    let block = reply::known_block(graph, x)?;
-    if graph::has_branch(graph, block) {
+    let cells = GraphCells { cells: graph };
+    let block = reply::known_block(&cells, x)?;
+    if cells.has_branch(block) {
         return Err(Refusal::Branched);
     }
     graph::declare_branch(graph, block);
@@ -156,21 +160,20 @@ pub fn new_branch(
 }
 
 // Has the builder begun with the block? It is sealed, has a predecessor, or a variable waits there: from then on the builder may give it parameters.
-fn is_begun(graph: &[u32], form: &[u32], block: Block) -> bool
-    requires graph_with { GraphWith (Seen graph.now) }
+fn is_begun(graph: &GraphCells, form: &[u32], block: Block) -> bool
     requires ex { Ex (HasPending form.now block.0) }
     requires block_lt_blocks { block.0 < limits.blocks }
     ensures { (g : Graph) → (s : Form) → Seen graph.now g → HasPending form.now block.0 s
         → result ≡ (g.sealed block.0 || not (length (g.preds block.0) =? 0) || not (length (s.pending block.0) =? 0)) }
 {
-    graph::is_sealed(graph, block)
-        || graph::predecessor_count(graph, block) != 0
+    graph.is_sealed(block)
+        || graph.predecessor_count(block) != 0
         || form::pending_count(form, block) != 0
 }
 
 // Kind 15. A caller's parameters stand before the builder's. Such a parameter counts as a made value, but it does not place its block.
 pub fn own_param(
-    graph: &[u32],
+    graph: &GraphCells,
     form: &mut [u32],
     c: Counts,
     x: u32,
@@ -199,7 +202,7 @@ pub fn own_param(
 // Kind 16. The caller's arguments feed the caller's parameters of the destination in order, and stand before the builder's: these come once the branch is
 // declared. The value is stored as it is.
 pub fn give_arg(
-    graph: &[u32],
+    graph: &GraphCells,
     form: &mut [u32],
     c: Counts,
     x: u32,
@@ -211,13 +214,13 @@ pub fn give_arg(
 {
     let branch = reply::known_branch(graph, x)?;
     let val = reply::known_value(c, y)?;
-    if graph::dest_count(graph, branch) <= z {
+    if graph.dest_count(branch) <= z {
         return Err(Refusal::Absent);
     }
-    if graph::is_declared(graph, branch) {
+    if graph.is_declared(branch) {
         return Err(Refusal::Declared);
     }
-    let dest = graph::dest(graph, branch, z);
+    let dest = graph.dest(branch, z);
     let n = form::argument_count(form, branch, z);
     if form::own_count(form, dest) <= n {
         return Err(Refusal::OwnFull);
@@ -240,8 +243,9 @@ pub fn mark_var_needs_stack_map(
     requires { SomeState graph.old form.now c }
     ensures { Answers graph.old form.now graph.new form.now c result (λ g s. mark_var g s x) }
 {
-    let var = reply::known_var(graph, x)?;
-    let n = graph::block_count(graph);
+    let cells = GraphCells { cells: graph };
+    let var = reply::known_var(&cells, x)?;
+    let n = cells.block_count();
     if form::is_defined(form, var, n) {
         return Err(Refusal::Defined);
     }

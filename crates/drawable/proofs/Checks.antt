@@ -1,15 +1,14 @@
--- The tests of the tables. A loop over a list tests what is left of it; together they decide `Drawable`.
+-- The tests of the tables: the library's `all` is the definition's `every`, and together they decide `Drawable`.
 -- Assumes nothing.
-use Prim.Native.Nat.{ℕ, suc, ◌+◌, ◌-◌, ◌<◌, ◌≤◌}
+use Prim.Native.Nat.{ℕ, zero, suc, ◌<◌, ◌≤◌}
 use mathlib.Core.Path.{◌≡◌, refl, sym, ap, ◌∙◌}
 use mathlib.Core.Bool.{Bool, true, false, not, ◌&&◌, ◌||◌}
 use mathlib.Core.List.{List, [], ◌∷◌}
 use native.Mathlib.Numerals.{add-one}
 use native.Mathlib.Omega.{arith}
 use borrow.Author.Tests.{ltb-true, leb-true, lt-ltb, le-leb, lt-leb}
-use lib.ListN.{length, get_or, drop, drop_of_length-le}
-use lib.Seq.{drop-cons}
-use Rattle.std.specs.List.{list_all}
+use lib.ListN.{get_or}
+use Rattle.std.specs.List.{list_all, range_with_len}
 use Rattle.entity.specs.Limits.{limits, value_room, param_room}
 use Rattle.definition.specs.Base.{◌<?◌, ◌≤?◌, every, up_from}
 use Rattle.meaning.proofs.Decide.{Decides, turned, both, implied, each}
@@ -20,49 +19,17 @@ use Rattle.layout.specs.Rows.{entries}
 use Rattle.drawable.specs.Fits.{params_at, dests_at, row_fits, blocks, values, branches, args_fit, branch_fits, block_fits, drawable}
 use Rattle.drawable.specs.Drawable.{RowFits, BranchFits, Drawable}
 
--- ---- all of a list, and what is left of it
+-- ---- all of a list, as the library says it
 
 module _ (f : ℕ → Bool) where
   pub every_of : (xs : List ℕ) → list_all f xs ≡ every f xs
   every_of [] = refl
   every_of (x ∷ xs) = ap (λ (z : Bool). f x && z) (every_of xs)
 
-  -- its first entry passes, so the others decide; or it fails
-  passed : {x : ℕ} {xs ys : List ℕ} → ys ≡ x ∷ xs → f x ≡ true → every f xs ≡ every f ys
-  passed {x} {xs} e p = sym (ap (every f) e ∙ ap (λ (z : Bool). z && every f xs) p)
-
-  failed : {x : ℕ} {xs ys : List ℕ} → ys ≡ x ∷ xs → f x ≡ false → every f ys ≡ false
-  failed {x} {xs} e p = ap (every f) e ∙ ap (λ (z : Bool). z && every f xs) p
-
-  -- of a list, from place i on
-  module _ (xs : List ℕ) (i : ℕ) where
-    from : i < length xs → drop i xs ≡ get_or xs i 0 ∷ drop (i + 1) xs
-    from h = drop-cons xs i 0 h ∙ ap (λ (k : ℕ). get_or xs i 0 ∷ drop k xs) (sym (add-one i))
-
-    pub passed_from : i < length xs → f (get_or xs i 0) ≡ true → every f (drop (i + 1) xs) ≡ every f (drop i xs)
-    passed_from h = passed (from h)
-
-    pub failed_from : i < length xs → f (get_or xs i 0) ≡ false → every f (drop i xs) ≡ false
-    failed_from h = failed (from h)
-
-    pub all_passed_from : length xs ≤ i → every f (drop i xs) ≡ true
-    all_passed_from h = ap (every f) (drop_of_length-le xs h)
-
-  -- of the numbers below n, from i on
-  module _ (n i : ℕ) where
-    up : i < n → up_from i (n - i) ≡ i ∷ up_from (i + 1) (n - (i + 1))
-    up h =
-        let e : n - i ≡ suc (n - (i + 1)) = omega arith in
-        ap (up_from i) e ∙ ap (λ (k : ℕ). i ∷ up_from k (n - (i + 1))) (sym (add-one i))
-
-    pub passed_up : i < n → f i ≡ true → every f (up_from (i + 1) (n - (i + 1))) ≡ every f (up_from i (n - i))
-    passed_up h = passed (up h)
-
-    pub failed_up : i < n → f i ≡ false → every f (up_from i (n - i)) ≡ false
-    failed_up h = failed (up h)
-
-    pub all_passed_up : n ≤ i → every f (up_from i (n - i)) ≡ true
-    all_passed_up h = let e : n - i ≡ 0 = omega arith in ap (λ (k : ℕ). every f (up_from i k)) e
+  -- of the numbers from i on, so many
+  pub every_up : (i n : ℕ) → list_all f (range_with_len i n) ≡ every f (up_from i n)
+  every_up i zero = refl
+  every_up i (suc n) = ap (λ (k : ℕ). f i && list_all f (range_with_len k n)) (add-one i) ∙ ap (λ (z : Bool). f i && z) (every_up (suc i) n)
 
 -- ---- the tests in their order
 

@@ -47,12 +47,7 @@ impl Tables<'_> {
         ensures { result ≡ every (args_fit self.now.form.now branch.0) (up_from 0 count) }
     {
         let values = self.form[layout::VALUE_COUNT];
-        for i in 0..count {
-            if !row_fits(PARAM_ROOM, values, self.form, args_at(branch, i)) {
-                return false;
-            }
-        }
-        true
+        (0..count).all(|i| row_fits(PARAM_ROOM, values, self.form, args_at(branch, i)))
     }
 
     fn branch_fits(&self, branch: Branch) -> bool
@@ -96,11 +91,6 @@ impl Tables<'_> {
         if entity::VALUE_ROOM < self.form[layout::VALUE_COUNT] as usize {
             return false;
         }
-        for b in 0..blocks {
-            if !self.block_fits(Block(b)) {
-                return false;
-            }
-        }
-        true
+        (0..blocks).all(|b| self.block_fits(Block(b)))
     }
 }

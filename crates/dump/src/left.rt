@@ -1,7 +1,5 @@
 // What a session leaves, and every read of it that printing makes. Past a table's end a cell is 0 and a row is empty, so that no count can lead astray.
-use entity::{
-    BLOCKS, DEST_ROW, DESTS, Described, PARAM_ROW, PRED_ROW, Sort, Type, WAIT_ROW, ZERO_ROW,
-};
+use entity::{Block, Branch, Described, Sort, Type, Variable};
 use phrases::line::{Answer, Call, Counts, Line, Mapped, OfBlock, Value};
 
 // The calls that were run: their kinds, xs, ys and zs; their codes and their answers, each in a room for as many as a session takes; and the tables.
@@ -29,9 +27,8 @@ fn table(cells: &[u32], start: usize, count: usize) -> &[u32] {
     rest.get(..count).unwrap_or(rest)
 }
 
-// The entries of row i, where the rows start at `start` and have so many cells each: the count, then the entries.
-fn row(cells: &[u32], start: usize, width: usize, i: usize) -> &[u32] {
-    let at = start.saturating_add(i.saturating_mul(width));
+// The entries of the row whose count stands at `at`, before them.
+fn row(cells: &[u32], at: usize) -> &[u32] {
     let count = cell(cells, at, 0) as usize;
     table(cells, at.saturating_add(1), count)
 }
@@ -110,12 +107,12 @@ impl<'a> Left<'a> {
     }
 
     pub(crate) fn params(&self, block: u32) -> OfBlock<'a> {
-        let values = row(self.form, layout::PARAMS, PARAM_ROW, block as usize);
+        let values = row(self.form, layout::params_at(Block(block)));
         OfBlock::Params { values }
     }
 
     pub(crate) fn dests(&self, block: u32) -> &'a [u32] {
-        row(self.graph, layout::DESTS, DEST_ROW, block as usize)
+        row(self.graph, layout::dests_at(Branch(block)))
     }
 
     // The branch itself, if the block has one.
@@ -129,18 +126,19 @@ impl<'a> Left<'a> {
 
     // The destination at this place, which is the block `to`, with its arguments.
     pub(crate) fn dest(&self, block: u32, place: usize, to: u32) -> OfBlock<'a> {
-        let i = (block as usize * DESTS as usize).saturating_add(place);
-        let args = row(self.form, layout::ARGS, PARAM_ROW, i);
+        // A place of more than 32 bits is past the table's end, as the largest is.
+        let i = u32::try_from(place).unwrap_or(u32::MAX);
+        let args = row(self.form, layout::args_at(Branch(block), i));
         OfBlock::Dest { place, to, args }
     }
 
     pub(crate) fn preds(&self, block: u32) -> OfBlock<'a> {
-        let blocks = row(self.graph, layout::PREDS, PRED_ROW, block as usize);
+        let blocks = row(self.graph, layout::preds_at(Block(block)));
         OfBlock::Preds { blocks }
     }
 
     pub(crate) fn pending(&self, block: u32) -> OfBlock<'a> {
-        let variables = row(self.form, layout::PENDING, WAIT_ROW, block as usize);
+        let variables = row(self.form, layout::pending_at(Block(block)));
         OfBlock::Pending { variables }
     }
 
@@ -151,18 +149,18 @@ impl<'a> Left<'a> {
 
     // What the block records last for the variable, if anything.
     pub(crate) fn definition(&self, block: u32, variable: u32) -> Option<OfBlock<'a>> {
-        let i = variable as usize * BLOCKS as usize + block as usize;
+        let at = layout::def_at(Variable(variable), Block(block));
         // The cell has the value plus one, 0 for none.
-        let value = cell(self.form, layout::DEFS, i).checked_sub(1)?;
+        let value = cell(self.form, at, 0).checked_sub(1)?;
         Some(OfBlock::Definition { variable, value })
     }
 
     pub(crate) fn zero_calls(&self) -> &'a [u32] {
-        row(self.form, layout::ZERO_CALLS, ZERO_ROW, 0)
+        row(self.form, layout::ZERO_CALLS)
     }
 
     pub(crate) fn zero_blocks(&self) -> &'a [u32] {
-        row(self.form, layout::ZERO_BLOCKS, ZERO_ROW, 0)
+        row(self.form, layout::ZERO_BLOCKS)
     }
 
     // The variables marked for stack maps.
@@ -178,7 +176,7 @@ impl<'a> Left<'a> {
     }
 
     pub(crate) fn placed(&self) -> Line<'a> {
-        let blocks = row(self.form, layout::PLACED, PRED_ROW, 0);
+        let blocks = row(self.form, layout::PLACED);
         Line::Placed { blocks }
     }
 }

@@ -2,7 +2,7 @@
 // The caller lends them, so they and the counts are parameters of each function, and no struct keeps them.
 #![tactic(auto)]
 
-ghost use Rattle.std.specs.Prelude.{◌≡◌, ℕ, suc, ◌<◌, ◌≤◌, length, get_or};
+ghost use Rattle.std.specs.Prelude.{◌≡◌, ℕ, suc, ◌<◌, ◌≤◌, length, get_or, take};
 ghost use Rattle.entity.specs.Described.{Fits, number_of, type_room};
 ghost use Rattle.entity.specs.Limits.{limits, value_room, wait_room};
 ghost use Rattle.entity.specs.Options.{value_of};
@@ -187,18 +187,19 @@ pub fn pending_count(form: &[u32], block: Block) -> u32
 }
 
 // Moves the block's pending variables to the front of the list, and answers these: settling them may make others pend, in other blocks.
-pub fn take_pending<'a>(form: &mut [u32], block: Block, list: &'a mut [u32]) -> &'a [u32]
+// How many they are is answered beside it: of a part that is answered in its place, nothing could be promised of the list itself.
+pub fn take_pending(form: &mut [u32], block: Block, list: &mut [u32]) -> u32
     requires ex { Ex (HasPending form.old block.0) }
     requires limits_in_bounds { wait_room limits ≤ length list.old }
-    ensures { (length result.now ≤ wait_room limits)
-        × ((s : Form) → HasPending form.old block.0 s → Taken form.new result.now block.0 s) }
+    ensures { (result ≤ wait_room limits)
+        × ((s : Form) → HasPending form.old block.0 s → Taken form.new (take result list.new) block.0 s) }
 {
-    let n = pending_count(form, block) as usize;
+    let n = pending_count(form, block);
+    let k = n as usize;
     let at = pending_at(block);
-    let pending = &mut list[..n];
-    pending.copy_from_slice(&form[at + 1..at + 1 + n]);
+    list[..k].copy_from_slice(&form[at + 1..at + 1 + k]);
     rows::clear(form, at);
-    pending
+    n
 }
 
 // The parameter of the pending variable that has n - 1 others behind it: settled ones may have left the list, so count from its end.

@@ -1,7 +1,8 @@
 // The graph in lent cells: blocks, variables' types, branches with their destinations, predecessors, marks of what is sealed or was declared, and of the
 // variables that stack maps must have.
 // Every read and every change of those cells is here, so that what is above speaks of the definition's graph alone.
-// The caller lends the cells, so they are a parameter of each function, and each asks for itself that they show a graph: no struct keeps them.
+// What reads the lent cells is a method of `GraphCells`, whose type says that they show a graph. What changes them takes the lent list, and asks for it:
+// of a `&mut` in a struct each contract would have to say that it is still the same one, and between two changes the graph need not be sound.
 #![tactic(auto)]
 
 ghost use Rattle.std.specs.Prelude.{◌≡◌, true, suc, ◌<◌, ◌≤◌, length, get_or};
@@ -16,145 +17,150 @@ ghost use Rattle.graph.specs.Seen.{CanDeclareVariable, CanDeclareDest, CanDeclar
 
 use entity::{Block, Branch, Variable};
 use layout::{BLOCK_COUNT, BRANCHES, DECLARED, MARKS, SEALED, TYPES, dests_at, preds_at};
+use std::marker::Model;
 
-pub fn block_count(graph: &[u32]) -> u32
-    requires { GraphWith (Seen graph.now) }
-    ensures upper_bound { result ≤ limits.blocks }
-    ensures value { (g : Graph) → Seen graph.now g → result ≡ g.blocks }
-{
-    graph[BLOCK_COUNT]
+// Lent cells that show a graph. A contract sees the list of them. Whoever builds it shows that they do, so its field is open to all.
+#[derive(Drop)]
+pub struct GraphCells<'a> {
+    pub cells: &'a [u32],
 }
 
-pub fn variable_count(graph: &[u32]) -> u32
-    requires { GraphWith (Seen graph.now) }
-    ensures upper_bound { result ≤ limits.variables }
-    ensures value { (g : Graph) → Seen graph.now g → result ≡ length g.types }
-{
-    graph[TYPES]
+impl<'a> Model for GraphCells<'a> {
+    ghost use Rattle.std.specs.Prelude.{ℕ, List};
+    ghost use Rattle.graph.specs.Seen.{GraphWith, Seen};
+
+    ghost Value = { List ℕ };
+
+    ghost view = { λ g. g.cells.now };
+
+    ghost invariant = { λ g. GraphWith (Seen g.cells.now) };
 }
 
-pub fn variable_type(graph: &[u32], var: Variable) -> u32
-    requires graph_with { GraphWith (Seen graph.now) }
-    requires var_lt_variables { var.0 < limits.variables }
-    ensures { (g : Graph) → Seen graph.now g → result ≡ type_of g var.0 }
-{
-    graph[TYPES + 1 + var.0 as usize]
-}
-
-// A flag is one cell of its table, read and stored in one expression: a function for all four tables would take the table's start, and its contract
-// would be longer than that expression.
-pub fn has_branch(graph: &[u32], block: Block) -> bool
-    requires graph_with { GraphWith (Seen graph.now) }
-    requires block_lt_blocks { block.0 < limits.blocks }
-    ensures { (g : Graph) → Seen graph.now g → result ≡ g.branch block.0 }
-{
-    graph[BRANCHES + block.0 as usize] != 0
-}
-
-pub fn is_sealed(graph: &[u32], block: Block) -> bool
-    requires graph_with { GraphWith (Seen graph.now) }
-    requires block_lt_blocks { block.0 < limits.blocks }
-    ensures { (g : Graph) → Seen graph.now g → result ≡ g.sealed block.0 }
-{
-    graph[SEALED + block.0 as usize] != 0
-}
-
-// Was the branch ever declared to a block? Also where it was removed again; `is_declared` says whether it is so now.
-pub fn ever_declared(graph: &[u32], branch: Branch) -> bool
-    requires graph_with { GraphWith (Seen graph.now) }
-    requires branch_lt_blocks { branch.0 < limits.blocks }
-    ensures { (g : Graph) → Seen graph.now g → result ≡ g.declared branch.0 }
-{
-    graph[DECLARED + branch.0 as usize] != 0
-}
-
-// Must stack maps have what the variable receives?
-pub fn is_marked(graph: &[u32], var: Variable) -> bool
-    requires graph_with { GraphWith (Seen graph.now) }
-    requires var_lt_variables { var.0 < limits.variables }
-    ensures { (g : Graph) → Seen graph.now g → result ≡ g.marks var.0 }
-{
-    graph[MARKS + var.0 as usize] != 0
-}
-
-pub fn dest_count(graph: &[u32], branch: Branch) -> u32
-    requires graph_with { GraphWith (Seen graph.now) }
-    requires branch_lt_blocks { branch.0 < limits.blocks }
-    ensures upper_bound { result ≤ limits.dests }
-    ensures value { (g : Graph) → Seen graph.now g → result ≡ length (g.dests branch.0) }
-{
-    graph[dests_at(branch)]
-}
-
-pub fn predecessor_count(graph: &[u32], block: Block) -> u32
-    requires graph_with { GraphWith (Seen graph.now) }
-    requires block_lt_blocks { block.0 < limits.blocks }
-    ensures upper_bound { result ≤ pred_room limits }
-    ensures value { (g : Graph) → Seen graph.now g → result ≡ length (g.preds block.0) }
-{
-    graph[preds_at(block)]
-}
-
-// The destination at a place.
-pub fn dest(graph: &[u32], branch: Branch, place: u32) -> Block
-    requires graph_with { GraphWith (Seen graph.now) }
-    requires branch_lt_blocks { branch.0 < limits.blocks }
-    requires place_lt_dests { place < limits.dests }
-    ensures result_lt_blocks { result.0 < limits.blocks }
-    ensures result_value { (g : Graph) → Seen graph.now g → result.0 ≡ get_or (g.dests branch.0) place 0 }
-{
-    Block(graph[dests_at(branch) + 1 + place as usize])
-}
-
-// The predecessor at a place.
-pub fn predecessor(graph: &[u32], block: Block, place: u32) -> Branch
-    requires graph_with { GraphWith (Seen graph.now) }
-    requires block_lt_blocks { block.0 < limits.blocks }
-    requires place_bound { place < pred_room limits }
-    ensures result_lt_blocks { result.0 < limits.blocks }
-    ensures result_value { (g : Graph) → Seen graph.now g → result.0 ≡ get_or (g.preds block.0) place 0 }
-{
-    Branch(graph[preds_at(block) + 1 + place as usize])
-}
-
-// Does the branch name the block?
-pub fn names(graph: &[u32], branch: Branch, block: Block) -> bool
-    requires graph_with { GraphWith (Seen graph.now) }
-    requires branch_lt_blocks { branch.0 < limits.blocks }
-    ensures { (g : Graph) → Seen graph.now g → result ≡ has block.0 (g.dests branch.0) }
-{
-    rows::has(graph, dests_at(branch), block.0)
-}
-
-// Is the branch declared to the block?
-pub fn is_predecessor(graph: &[u32], block: Block, branch: Branch) -> bool
-    requires graph_with { GraphWith (Seen graph.now) }
-    requires block_lt_blocks { block.0 < limits.blocks }
-    ensures { (g : Graph) → Seen graph.now g → result ≡ has branch.0 (g.preds block.0) }
-{
-    rows::has(graph, preds_at(block), branch.0)
-}
-
-// Is the branch declared anywhere? Only a block that it names can have it.
-pub fn is_declared(graph: &[u32], branch: Branch) -> bool
-    requires graph_with { GraphWith (Seen graph.now) }
-    requires branch_lt_blocks { branch.0 < limits.blocks }
-    ensures { (g : Graph) → Seen graph.now g → result ≡ declared_anywhere g branch.0 }
-{
-    let n = dest_count(graph, branch);
-    (0..n).any(|i| is_predecessor(graph, dest(graph, branch, i), branch))
-}
-
-// The block whose branch is the only one to a sealed block.
-pub fn single_predecessor(graph: &[u32], block: Block) -> Option<Block>
-    requires graph_with { GraphWith (Seen graph.now) }
-    requires block_lt_blocks { block.0 < limits.blocks }
-    ensures { (g : Graph) → Seen graph.now g → block_of result ≡ single g block.0 }
-{
-    if !is_sealed(graph, block) || predecessor_count(graph, block) != 1 {
-        return None;
+impl<'a> GraphCells<'a> {
+    pub fn block_count(&self) -> u32
+        ensures upper_bound { result ≤ limits.blocks }
+        ensures value { (g : Graph) → Seen self.now g → result ≡ g.blocks }
+    {
+        self.cells[BLOCK_COUNT]
     }
-    Some(predecessor(graph, block, 0).into())
+
+    pub fn variable_count(&self) -> u32
+        ensures upper_bound { result ≤ limits.variables }
+        ensures value { (g : Graph) → Seen self.now g → result ≡ length g.types }
+    {
+        self.cells[TYPES]
+    }
+
+    pub fn variable_type(&self, var: Variable) -> u32
+        requires { var.0 < limits.variables }
+        ensures { (g : Graph) → Seen self.now g → result ≡ type_of g var.0 }
+    {
+        self.cells[TYPES + 1 + var.0 as usize]
+    }
+
+    // A flag is one cell of its table, read and stored in one expression: a function for all four tables would take the table's start, and its contract
+    // would be longer than that expression.
+    pub fn has_branch(&self, block: Block) -> bool
+        requires { block.0 < limits.blocks }
+        ensures { (g : Graph) → Seen self.now g → result ≡ g.branch block.0 }
+    {
+        self.cells[BRANCHES + block.0 as usize] != 0
+    }
+
+    pub fn is_sealed(&self, block: Block) -> bool
+        requires { block.0 < limits.blocks }
+        ensures { (g : Graph) → Seen self.now g → result ≡ g.sealed block.0 }
+    {
+        self.cells[SEALED + block.0 as usize] != 0
+    }
+
+    // Was the branch ever declared to a block? Also where it was removed again; `is_declared` says whether it is so now.
+    pub fn ever_declared(&self, branch: Branch) -> bool
+        requires { branch.0 < limits.blocks }
+        ensures { (g : Graph) → Seen self.now g → result ≡ g.declared branch.0 }
+    {
+        self.cells[DECLARED + branch.0 as usize] != 0
+    }
+
+    // Must stack maps have what the variable receives?
+    pub fn is_marked(&self, var: Variable) -> bool
+        requires { var.0 < limits.variables }
+        ensures { (g : Graph) → Seen self.now g → result ≡ g.marks var.0 }
+    {
+        self.cells[MARKS + var.0 as usize] != 0
+    }
+
+    pub fn dest_count(&self, branch: Branch) -> u32
+        requires { branch.0 < limits.blocks }
+        ensures upper_bound { result ≤ limits.dests }
+        ensures value { (g : Graph) → Seen self.now g → result ≡ length (g.dests branch.0) }
+    {
+        self.cells[dests_at(branch)]
+    }
+
+    pub fn predecessor_count(&self, block: Block) -> u32
+        requires { block.0 < limits.blocks }
+        ensures upper_bound { result ≤ pred_room limits }
+        ensures value { (g : Graph) → Seen self.now g → result ≡ length (g.preds block.0) }
+    {
+        self.cells[preds_at(block)]
+    }
+
+    // The destination at a place.
+    pub fn dest(&self, branch: Branch, place: u32) -> Block
+        requires branch_lt_blocks { branch.0 < limits.blocks }
+        requires place_lt_dests { place < limits.dests }
+        ensures result_lt_blocks { result.0 < limits.blocks }
+        ensures result_value { (g : Graph) → Seen self.now g → result.0 ≡ get_or (g.dests branch.0) place 0 }
+    {
+        Block(self.cells[dests_at(branch) + 1 + place as usize])
+    }
+
+    // The predecessor at a place.
+    pub fn predecessor(&self, block: Block, place: u32) -> Branch
+        requires block_lt_blocks { block.0 < limits.blocks }
+        requires place_bound { place < pred_room limits }
+        ensures result_lt_blocks { result.0 < limits.blocks }
+        ensures result_value { (g : Graph) → Seen self.now g → result.0 ≡ get_or (g.preds block.0) place 0 }
+    {
+        Branch(self.cells[preds_at(block) + 1 + place as usize])
+    }
+
+    // Does the branch name the block?
+    pub fn names(&self, branch: Branch, block: Block) -> bool
+        requires { branch.0 < limits.blocks }
+        ensures { (g : Graph) → Seen self.now g → result ≡ has block.0 (g.dests branch.0) }
+    {
+        rows::has(self.cells, dests_at(branch), block.0)
+    }
+
+    // Is the branch declared to the block?
+    pub fn is_predecessor(&self, block: Block, branch: Branch) -> bool
+        requires { block.0 < limits.blocks }
+        ensures { (g : Graph) → Seen self.now g → result ≡ has branch.0 (g.preds block.0) }
+    {
+        rows::has(self.cells, preds_at(block), branch.0)
+    }
+
+    // Is the branch declared anywhere? Only a block that it names can have it.
+    pub fn is_declared(&self, branch: Branch) -> bool
+        requires { branch.0 < limits.blocks }
+        ensures { (g : Graph) → Seen self.now g → result ≡ declared_anywhere g branch.0 }
+    {
+        let n = self.dest_count(branch);
+        (0..n).any(|i| self.is_predecessor(self.dest(branch, i), branch))
+    }
+
+    // The block whose branch is the only one to a sealed block.
+    pub fn single_predecessor(&self, block: Block) -> Option<Block>
+        requires { block.0 < limits.blocks }
+        ensures { (g : Graph) → Seen self.now g → block_of result ≡ single g block.0 }
+    {
+        if !self.is_sealed(block) || self.predecessor_count(block) != 1 {
+            return None;
+        }
+        Some(self.predecessor(block, 0).into())
+    }
 }
 
 // The next block is there.

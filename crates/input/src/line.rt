@@ -26,7 +26,7 @@ pub struct Line {
     // The line's number, and that of its latest byte, both from 1. Should such a count be used up, it stays.
     place: u64,
     column: u64,
-    // Its numbers so far.
+    // Its numbers so far, and how many they are. There is no heap, so a line has room for the most.
     numbers: [u32; MOST],
     count: usize,
     // Does the next digit belong to the latest number?

@@ -6,7 +6,7 @@ use mathlib.Core.Path.{◌≡◌, sym, ap, ◌∙◌, subst}
 use mathlib.Core.List.{List, ◌∷◌, ◌++◌, map}
 use native.Mathlib.Omega.{arith}
 use lib.ListN.{length, get_or, drop, length-map, length-append, length-drop}
-use lib.Seq.{drop-cons, drop-length}
+use lib.Seq.{drop-cons}
 use Rattle.entity.specs.Limits.{limits, call_room}
 use Rattle.definition.specs.Form.{Graph}
 use Rattle.meaning.specs.Machine.{Task, look, finish}

@@ -14,6 +14,7 @@ ghost use Rattle.lookup.specs.Walk.{WalkWith, CanWalk, whole_walk, Stops, CopyWi
 ghost use Rattle.lookup.specs.Find.{AllWith, CanUse, Visits, CanFind, Finds, BeginWith, CanBegin};
 
 use entity::{Block, Sort, Value, Variable};
+use graph::GraphCells;
 use layout::{Call, Counts};
 
 // Where a walk stopped, and the definition that it met there.
@@ -25,7 +26,7 @@ pub struct Stop {
 
 // Puts the value of the variable in the block on the stack of results, or schedules what finds it.
 pub fn use_var_nonlocal(
-    graph: &[u32],
+    graph: &GraphCells,
     form: &mut [u32],
     work: &mut [u32],
     c: Counts,
@@ -48,7 +49,14 @@ pub fn use_var_nonlocal(
 
 // Records the value in each block from the first up to the first meeting with `from`, which is left alone: on a ring of single predecessors it may be
 // met again, and it has the value already.
-fn copy_back(graph: &[u32], form: &mut [u32], var: Variable, block: Block, from: Block, val: Value)
+fn copy_back(
+    graph: &GraphCells,
+    form: &mut [u32],
+    var: Variable,
+    block: Block,
+    from: Block,
+    val: Value,
+)
     requires copy_with { CopyWith (CanCopy graph.now form.old var.0 block.0 from.0) }
     requires val_bound { val.0 < value_room limits }
     ensures { (g : Graph) → (s : Form) → (bs : List ℕ)
@@ -58,7 +66,7 @@ fn copy_back(graph: &[u32], form: &mut [u32], var: Variable, block: Block, from:
     let mut b = block;
     while b != from {
         form::record_def(form, var, b, val);
-        let Some(pred) = graph::single_predecessor(graph, b) else {
+        let Some(pred) = graph.single_predecessor(b) else {
             return;
         };
         b = pred;
@@ -66,7 +74,7 @@ fn copy_back(graph: &[u32], form: &mut [u32], var: Variable, block: Block, from:
 }
 
 // Walks over single predecessors until a definition, a block met before, or a block without one. Each step costs the same: what was met is marked.
-fn walk(graph: &[u32], form: &[u32], var: Variable, block: Block) -> Stop
+fn walk(graph: &GraphCells, form: &[u32], var: Variable, block: Block) -> Stop
     requires { WalkWith (CanWalk graph.now form.now var.0 block.0) }
     ensures { (g : Graph) → (s : Form) → CanWalk graph.now form.now var.0 block.0 g s
         → Stops result (whole_walk g var.0 block.0 s) }
@@ -74,7 +82,7 @@ fn walk(graph: &[u32], form: &[u32], var: Variable, block: Block) -> Stop
     // Fixed memory, cleared at each walk: no heap, and nothing is kept between walks.
     let mut visited = [false; entity::BLOCKS as usize];
     let mut b = block;
-    while let Some(pred) = graph::single_predecessor(graph, b) {
+    while let Some(pred) = graph.single_predecessor(b) {
         let i = b.0 as usize;
         if visited[i] {
             break;
@@ -97,7 +105,7 @@ fn walk(graph: &[u32], form: &[u32], var: Variable, block: Block) -> Stop
 // Finds the most recent definition of the variable along single predecessors, or makes a parameter for it where the walk stopped. The parameter is
 // recorded before any predecessor is read, so that a loop of blocks finds it. A block that is not sealed waits with its predecessors.
 fn find_var(
-    graph: &[u32],
+    graph: &GraphCells,
     form: &mut [u32],
     work: &mut [u32],
     c: Counts,
@@ -118,8 +126,8 @@ fn find_var(
     let val = Value(c.values);
     let d = form::append_block_param(form, c, from, Sort::Param, ty);
     form::record_def(form, var, from, val);
-    form::record_stack_map_binding(form, graph::is_marked(graph, var), val);
-    if graph::is_sealed(graph, from) {
+    form::record_stack_map_binding(form, graph.is_marked(var), val);
+    if graph.is_sealed(from) {
         let e = begin_predecessors_lookup(graph, work, d, val, from);
         return (val, from, e);
     }
@@ -131,7 +139,7 @@ fn find_var(
 // Schedules the lookup in each predecessor, and what settles the sentinel after them. The call on top runs first, so the last predecessor is
 // scheduled first.
 pub fn begin_predecessors_lookup(
-    graph: &[u32],
+    graph: &GraphCells,
     work: &mut [u32],
     c: Counts,
     sentinel: Value,
@@ -143,9 +151,9 @@ pub fn begin_predecessors_lookup(
         → Stacks work.new result (schedule g sentinel.0 dest.0 ts) rs) }
 {
     let mut d = work::push_call(work, c, Call::FinishPredecessorsLookup(sentinel, dest));
-    let n = graph::predecessor_count(graph, dest);
+    let n = graph.predecessor_count(dest);
     for i in (0..n).rev() {
-        let p = graph::predecessor(graph, dest, i);
+        let p = graph.predecessor(dest, i);
         d = work::push_call(work, d, Call::UseVar(p));
     }
     d

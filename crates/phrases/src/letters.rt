@@ -1,6 +1,6 @@
 // The lines in letters, for programs: a letter for what is told, then the numbers.
 use crate::line::{Line, Mapped, OfBlock};
-use crate::names::{Places, Row};
+use crate::names::{Places, numbers};
 use std::fmt;
 use std::fmt::{Display, Write};
 
@@ -31,14 +31,10 @@ impl Display for Letters<'_> {
             Line::OfBlock { block, tells } => write!(f, "{}", BlockLetters { block, tells }),
             Line::Zero { row, call, block } => writeln!(f, "Z {row} {call} {block}"),
             Line::Mapped(of) => writeln!(f, "{}{}", mapped(of), places(of)),
-            Line::Placed { blocks } => writeln!(f, "O{}", row(blocks)),
+            Line::Placed { blocks } => writeln!(f, "O{}", numbers(blocks)),
             Line::End => writeln!(f, "END"),
         }
     }
-}
-
-fn row(numbers: &[u32]) -> Row<'_> {
-    Row { of: "", numbers }
 }
 
 fn mapped(of: Mapped<'_>) -> char {
@@ -56,6 +52,7 @@ fn places(of: Mapped<'_>) -> Places<'_> {
     }
 }
 
+// A line of a block. Each style has a type for it, since a type is written in one way.
 #[derive(Clone, Copy)]
 struct BlockLetters<'a> {
     block: u32,
@@ -66,11 +63,15 @@ impl Display for BlockLetters<'_> {
     fn fmt<W: Write>(&self, f: &mut fmt::Formatter<W>) -> fmt::Result {
         let block = self.block;
         match self.tells {
-            OfBlock::Params { values } => writeln!(f, "P {block}{}", row(values)),
+            OfBlock::Params { values } => writeln!(f, "P {block}{}", numbers(values)),
             OfBlock::Branch { dests } => writeln!(f, "B {block} {dests}"),
-            OfBlock::Dest { place, to, args } => writeln!(f, "D {block} {place} {to}{}", row(args)),
-            OfBlock::Preds { blocks } => writeln!(f, "R {block}{}", row(blocks)),
-            OfBlock::Pending { variables } => writeln!(f, "U {block}{}", row(variables)),
+            OfBlock::Dest { place, to, args } => writeln!(
+                f,
+                "D {block} {place} {to}{}",
+                numbers(args)
+            ),
+            OfBlock::Preds { blocks } => writeln!(f, "R {block}{}", numbers(blocks)),
+            OfBlock::Pending { variables } => writeln!(f, "U {block}{}", numbers(variables)),
             OfBlock::Sealed { sealed } => writeln!(f, "E {block} {}", u8::from(sealed)),
             // As the cell has it, where 0 is none.
             OfBlock::Definition { variable, value } => {

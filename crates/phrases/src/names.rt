@@ -48,6 +48,11 @@ impl Display for Row<'_> {
     }
 }
 
+// A row that needs no word for what its numbers are of.
+pub fn numbers(numbers: &[u32]) -> Row<'_> {
+    Row { of: "", numbers }
+}
+
 // The numbers of those that stack maps must have, each after a text and before another.
 #[derive(Clone, Copy)]
 pub struct Places<'a> {

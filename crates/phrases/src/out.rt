@@ -5,7 +5,7 @@ use crate::reason::Words;
 use std::fmt;
 use std::fmt::Write;
 
-// What waits to be written stands at the start of the room.
+// What waits to be written stands at the start of the room, which is lent and counted here: there is no heap to let it grow.
 #[derive(Drop)]
 pub struct Out<'a, R> {
     rt: &'a R,

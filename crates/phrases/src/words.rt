@@ -1,6 +1,6 @@
 // The lines in words, for people. What there is nothing to tell of has no line.
 use crate::line::{Answer, Call, Line, Mapped, OfBlock, Value};
-use crate::names::{Name, Places, Row};
+use crate::names::{Name, Places, Row, numbers};
 use entity::{Sort, Type};
 use std::fmt;
 use std::fmt::{Display, Write};
@@ -35,10 +35,6 @@ impl Display for Words<'_> {
     }
 }
 
-fn numbers(numbers: &[u32]) -> Row<'_> {
-    Row { of: "", numbers }
-}
-
 fn values(numbers: &[u32]) -> Row<'_> {
     Row { of: "v", numbers }
 }
@@ -51,6 +47,7 @@ fn places(of: Mapped<'_>) -> Places<'_> {
     Places { before, of, after }
 }
 
+// A line of a block. Each style has a type for it, since a type is written in one way.
 #[derive(Clone, Copy)]
 struct BlockWords<'a> {
     block: u32,
@@ -99,7 +96,8 @@ impl Display for BlockWords<'_> {
     }
 }
 
-// What a call asks, by its kind. It need not be one that there is, and is then told with all its numbers.
+// What a call asks, by its kind. It need not be one that there is, and is then told with all its numbers. Kinds stay numbers here: a list may hold any
+// number, and this crate knows no more of a call than its numbers.
 #[derive(Clone, Copy)]
 struct Asked(Call);
 
@@ -136,7 +134,7 @@ impl Display for Asked {
     }
 }
 
-// What it is answered. Calls of the kinds left out answer what they were given.
+// What it is answered. Calls of the kinds left out answer what they were given. Kinds and codes stay numbers, as above.
 #[derive(Clone, Copy)]
 struct Answered(Answer);
 
@@ -164,7 +162,7 @@ impl Display for Answered {
     }
 }
 
-// Why a call is refused, by its code, which is what the table of codes has.
+// Why a call is refused, by its code. It stays a number, since that is what the table of codes has, and any number may stand there.
 fn reason(code: u32) -> &'static str {
     match code {
         3 => ", there is no such kind",

@@ -14,7 +14,7 @@ const PICTURE_BYTES: usize = entity::BLOCKS as usize
     * (1 + entity::DESTS as usize)
     * (8 * entity::PARAM_ROOM);
 
-// What a session is lent besides its calls. It starts empty whatever they hold.
+// What a session is lent besides its calls. It starts empty whatever they hold. There is no heap, so each table has all its cells.
 #[derive(Drop)]
 struct Tables {
     codes: [u32; CALLS],

@@ -1,6 +1,7 @@
 -- Which row is asked for, whether a table has it, and where it lies there.
 -- Assumes nothing.
-use Rattle.std.specs.Prelude.{ℕ, ◌+◌, ◌*◌, ◌≡◌, Bool, ◌&&◌, Option, Some, None, MatchOption, List, length, get_or, take, drop, if◌then◌else◌}
+use Rattle.std.specs.Prelude.{ℕ, ◌+◌, ◌*◌, ◌≡◌, Bool, ◌&&◌, List, length, get_or, take, drop, if◌then◌else◌}
+use Rattle.std.specs.Prelude.{Option, Some, None, MatchOption}
 use Rattle.std.specs.Borrow.{Bor}
 use Rattle.entity.specs.Limits.{limits, param_room}
 use Rattle.definition.specs.Base.{◌<?◌, ◌≤?◌}

@@ -6,12 +6,12 @@ ghost use Rattle.std.specs.Prelude.{◌≡◌, ◌≤◌, ◌<◌, Ok, MatchResu
 ghost use Rattle.entity.specs.Limits.{limits};
 ghost use Rattle.entity.specs.Types.{type_count};
 ghost use Rattle.definition.specs.Session.{no_block, no_var, no_branch};
-ghost use Rattle.graph.specs.Seen.{GraphWith, Seen};
 ghost use Rattle.reply.specs.declared.Refusal.{Refusal};
 ghost use Rattle.reply.specs.Replies.{refusal_code, reply_of, taken};
 ghost use Rattle.reply.specs.Known.{Found, Lost};
 
 use entity::{Block, Branch, Type, Value, Variable};
+use graph::GraphCells;
 use layout::Counts;
 
 // Why a call is refused, in the order of the codes.
@@ -103,34 +103,31 @@ impl Reply {
 
 // Blocks are numbered from 0 without a gap, so those that are there are below their count. (Each kind of number has a check of its own, two lines long: one
 // for all would take the count and the type, and its promise would be longer than these.)
-pub fn known_block(graph: &[u32], b: u32) -> Result<Block, Refusal>
-    requires { GraphWith (Seen graph.now) }
+pub fn known_block(graph: &GraphCells, b: u32) -> Result<Block, Refusal>
     ensures { MatchResult result (λ block. Found graph.now b limits.blocks block.0 no_block) (λ e. Lost graph.now b e no_block) }
 {
-    if graph::block_count(graph) <= b {
+    if graph.block_count() <= b {
         return Err(Refusal::Absent);
     }
     Ok(Block(b))
 }
 
 // So are variables.
-pub fn known_var(graph: &[u32], v: u32) -> Result<Variable, Refusal>
-    requires { GraphWith (Seen graph.now) }
+pub fn known_var(graph: &GraphCells, v: u32) -> Result<Variable, Refusal>
     ensures { MatchResult result (λ var. Found graph.now v limits.variables var.0 no_var) (λ e. Lost graph.now v e no_var) }
 {
-    if graph::variable_count(graph) <= v {
+    if graph.variable_count() <= v {
         return Err(Refusal::Absent);
     }
     Ok(Variable(v))
 }
 
 // A branch bears its block's number.
-pub fn known_branch(graph: &[u32], p: u32) -> Result<Branch, Refusal>
-    requires { GraphWith (Seen graph.now) }
+pub fn known_branch(graph: &GraphCells, p: u32) -> Result<Branch, Refusal>
     ensures { MatchResult result (λ branch. Found graph.now p limits.blocks branch.0 no_branch) (λ e. Lost graph.now p e no_branch) }
 {
     let block = known_block(graph, p)?;
-    if !graph::has_branch(graph, block) {
+    if !graph.has_branch(block) {
         return Err(Refusal::Absent);
     }
     Ok(Branch::from(block))

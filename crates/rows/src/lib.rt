@@ -20,13 +20,9 @@ pub fn find(t: &[u32], at: usize, x: u32) -> Option<u32>
     requires { Readable t.now at }
     ensures { let n = get_or t.now at 0 in let k = seek t.now at x n 0 in result ≡ (if ltb k n then Some k else None) }
 {
-    let n = t[at];
-    for i in 0..n {
-        if t[at + 1 + i as usize] == x {
-            return Some(i);
-        }
-    }
-    None
+    let n = t[at] as usize;
+    let entries = &t[at + 1..at + 1 + n];
+    entries.iter().position(|y| *y == x).map(|i| i as u32)
 }
 
 // Is x in the row?

@@ -17,6 +17,7 @@ ghost use Rattle.settle.specs.Settle.{SomeWith, BothWith, AllWith, CanResolve, C
 ghost use Rattle.settle.specs.Settle.{CanEmit, CanZero, Zeroed, CanAlias, CanSettle, Settled};
 
 use entity::{Block, Branch, Sort, Type, Value};
+use graph::GraphCells;
 use layout::{Counts, TARGET};
 
 // What the predecessors' results say: nothing but the sentinel, one value, or more.
@@ -60,14 +61,14 @@ fn agree(form: &[u32], work: &[u32], c: Counts, n: u32, sentinel: Value) -> Agre
 }
 
 // The value becomes the next argument at each destination of the branch that is the block.
-fn append_argument(graph: &[u32], form: &mut [u32], branch: Branch, dest: Block, val: Value)
+fn append_argument(graph: &GraphCells, form: &mut [u32], branch: Branch, dest: Block, val: Value)
     requires { BothWith (CanFeedBranch graph.now form.old branch.0 dest.0) }
     ensures { (g : Graph) → (s : Form) → CanFeedBranch graph.now form.old branch.0 dest.0 g s
         → Cells form.new (with_args s (feed branch.0 dest.0 val.0 (g.dests branch.0) s.args)) }
 {
-    let n = graph::dest_count(graph, branch);
+    let n = graph.dest_count(branch);
     for i in 0..n {
-        let d = graph::dest(graph, branch, i);
+        let d = graph.dest(branch, i);
         if d == dest {
             form::append_argument(form, branch, i, val);
         }
@@ -75,15 +76,15 @@ fn append_argument(graph: &[u32], form: &mut [u32], branch: Branch, dest: Block,
 }
 
 // Each predecessor's result, unresolved, becomes an argument of its branch.
-fn append_arguments(graph: &[u32], form: &mut [u32], work: &[u32], c: Counts, dest: Block)
+fn append_arguments(graph: &GraphCells, form: &mut [u32], work: &[u32], c: Counts, dest: Block)
     requires { AllWith (CanFeedAll graph.now form.old work.now c dest.0) }
     ensures { (g : Graph) → (s : Form) → (ts : List Task) → (rs : List ℕ)
         → CanFeedAll graph.now form.old work.now c dest.0 g s ts rs
         → Cells form.new (with_args s (feed_all g dest.0 (g.preds dest.0) (lasts (length (g.preds dest.0)) rs) s.args)) }
 {
-    let n = graph::predecessor_count(graph, dest);
+    let n = graph.predecessor_count(dest);
     for i in 0..n {
-        let p = graph::predecessor(graph, dest, i);
+        let p = graph.predecessor(dest, i);
         let r = work::result(work, c, n, i);
         append_argument(graph, form, p, dest, r);
     }
@@ -129,7 +130,7 @@ fn replace_param(form: &mut [u32], block: Block, param: Value, val: Value)
 // Settles the sentinel by the results of the block's predecessors, which leave the stack.
 // Where they agree the sentinel is not needed: it becomes another name of that value, or of a zero where nothing else reaches the block.
 pub fn finish_predecessors_lookup(
-    graph: &[u32],
+    graph: &GraphCells,
     form: &mut [u32],
     work: &[u32],
     c: Counts,
@@ -141,7 +142,7 @@ pub fn finish_predecessors_lookup(
         → CanSettle graph.now form.old work.now c sentinel.0 dest.0 g s ts rs
         → Settled form.new work.now c.call result sentinel.0 dest.0 g s ts rs }
 {
-    let n = graph::predecessor_count(graph, dest);
+    let n = graph.predecessor_count(dest);
     match agree(form, work, c, n, sentinel) {
         Agreement::Nothing => {
             let (zero, d) = emit_zero(form, c, sentinel, dest);

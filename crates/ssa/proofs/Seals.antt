@@ -24,6 +24,7 @@ use Rattle.meaning.proofs.Sealing.{idle}
 use Rattle.meaning.proofs.Steady.{Steady, steady_rooms, steady_seal, sound_then, bounds_then, seal_rests}
 use Rattle.layout.specs.declared.Counts.{Counts}
 use Rattle.layout.specs.Layout.{Graphs, Shown}
+use Rattle.graph.specs.Seen.{Seen, Shown as GraphShown}
 use Rattle.form.specs.Can.{HasPending, Taken, Lists, NextParam}
 use Rattle.ssa.specs.Use.{AtRest, CanFill, HasFilled, CanSeal, HasSealed, Marked}
 
@@ -46,6 +47,15 @@ pub record Settling (gl fl wl list : List ℕ) (c : Counts) (b n k : ℕ) (g : G
   pub unsealed : g.sealed b ≡ false
   pub whole : length list ≡ n
   pub lists : Lists list b s
+
+-- the marked cells show a graph still
+pub sealed_seen : {gl fl wl gl₁ : List ℕ} {c : Counts} {b : ℕ} {g : Graph} {s : Form} → CanSeal gl fl wl c b g s → g.sealed b ≡ false
+    → GraphShown gl₁ (mark_sealed g b) → Seen gl₁ (mark_sealed g b)
+sealed_seen {b = b} {g = g} {s = s} h e k = record {
+  cells = k;
+  bounds = bounds_then g s h.rest.steady b h.known e;
+  sound = sound_then g s h.rest.steady b h.known e;
+}
 
 module _ {gl fl wl : List ℕ} {c : Counts} {b : ℕ} {g : Graph} {s : Form} (h : Marked gl fl wl c b g s) where
   pub pending_can : HasPending fl b s

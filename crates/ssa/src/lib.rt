@@ -9,12 +9,13 @@ ghost use Rattle.definition.specs.Form.{Graph, Form};
 ghost use Rattle.definition.specs.Read.{write};
 ghost use Rattle.definition.specs.Session.{mark_sealed, seal_form, seal_each};
 ghost use Rattle.meaning.specs.Machine.{Task, Conf, conf, turn};
-ghost use Rattle.graph.specs.Seen.{GraphWith, Seen};
+ghost use Rattle.graph.specs.Seen.{Seen};
 ghost use Rattle.form.specs.Can.{Ex, Cells, HasDef};
 ghost use Rattle.ssa.specs.Run.{TurnWith, RunWith, UnderWay, CanRun, Ran};
 ghost use Rattle.ssa.specs.Use.{StateWith, AtRest, CanRead, HasRead, CanFill, HasFilled, CanSeal, HasSealed, Marked};
 
 use entity::{Block, Branch, Value, Variable};
+use graph::GraphCells;
 use layout::{Call, Counts};
 
 // The value is the variable's definition in the block.
@@ -30,7 +31,7 @@ pub fn def_var(form: &mut [u32], var: Variable, val: Value, block: Block)
 // The value of the variable in the block. Mostly it is recorded there, so that is tested first: then no stack is touched.
 // Else the machine makes the first visit too, so that there is one place where blocks are visited, and the visit is compiled into the machine's loop.
 pub fn use_var(
-    graph: &[u32],
+    graph: &GraphCells,
     form: &mut [u32],
     work: &mut [u32],
     c: Counts,
@@ -44,7 +45,7 @@ pub fn use_var(
     if let Some(val) = form::definition(form, var, block) {
         return (val, c);
     }
-    let ty = graph::variable_type(graph, var);
+    let ty = graph.variable_type(var);
     let d = work::push_call(work, c, Call::UseVar(Branch::from(block)));
     let (val, e) = run_state_machine(graph, form, work, d, var, ty);
     (val, c.with_values(e.values))
@@ -57,7 +58,7 @@ pub fn seal_all_blocks(graph: &mut [u32], form: &mut [u32], work: &mut [u32], c:
         → AtRest graph.new form.new work.new result
         (seal_each (up_from 0 g.blocks) g s).0 (seal_each (up_from 0 g.blocks) g s).1 }
 {
-    let n = graph::block_count(graph);
+    let n = GraphCells { cells: graph }.block_count();
     let mut d = c;
     for b in 0..n {
         d = seal_one_block(graph, form, work, d, Block(b));
@@ -77,17 +78,18 @@ pub fn seal_one_block(
     ensures { (g : Graph) → (s : Form) → CanSeal graph.old form.old work.old c block.0 g s
         → HasSealed graph.new form.new work.new result block.0 g s }
 {
-    if graph::is_sealed(graph, block) {
+    let cells = GraphCells { cells: graph };
+    if cells.is_sealed(block) {
         return c;
     }
     graph::mark_sealed(graph, block);
-    settle_pending(graph, form, work, c, block)
+    settle_pending(&GraphCells { cells: graph }, form, work, c, block)
 }
 
 // Settles the pending variables in the order in which they came to wait, as each appends its arguments after those of the ones before it.
 // Settled parameters may have left the block's list, but those of the n - k variables that are left are the last of it.
 fn settle_pending(
-    graph: &[u32],
+    graph: &GraphCells,
     form: &mut [u32],
     work: &mut [u32],
     c: Counts,
@@ -99,10 +101,9 @@ fn settle_pending(
 {
     // Fixed memory, no heap: the list is taken out of the cells before they are changed.
     let mut waiting = [0u32; entity::WAIT_ROOM];
-    let pending = form::take_pending(form, block, &mut waiting);
-    let n = pending.len() as u32;
+    let n = form::take_pending(form, block, &mut waiting);
     let mut d = c;
-    for (k, v) in pending.iter().enumerate() {
+    for (k, v) in waiting[..n as usize].iter().enumerate() {
         let val = form::pending_param(form, block, n - k as u32);
         d = predecessors_lookup(graph, form, work, d, Variable(*v), val, block);
     }
@@ -111,7 +112,7 @@ fn settle_pending(
 
 // Reads the variable in the block's predecessors, and settles its parameter: what sealing does for each pending variable.
 fn predecessors_lookup(
-    graph: &[u32],
+    graph: &GraphCells,
     form: &mut [u32],
     work: &mut [u32],
     c: Counts,
@@ -124,23 +125,22 @@ fn predecessors_lookup(
         → CanFill graph.now form.old work.old c var.0 sentinel.0 dest.0 g s
         → HasFilled form.new work.new c.call result var.0 sentinel.0 dest.0 g s }
 {
-    let ty = graph::variable_type(graph, var);
+    let ty = graph.variable_type(var);
     let d = lookup::begin_predecessors_lookup(graph, work, c, sentinel, dest);
     let (_, e) = run_state_machine(graph, form, work, d, var, ty);
     c.with_values(e.values)
 }
 
-pub fn has_any_predecessors(graph: &[u32], block: Block) -> bool
-    requires graph_with { GraphWith (Seen graph.now) }
-    requires block_lt_blocks { block.0 < limits.blocks }
+pub fn has_any_predecessors(graph: &GraphCells, block: Block) -> bool
+    requires { block.0 < limits.blocks }
     ensures { (g : Graph) → Seen graph.now g → result ≡ not (eqb (length (g.preds block.0)) 0) }
 {
-    graph::predecessor_count(graph, block) != 0
+    graph.predecessor_count(block) != 0
 }
 
 // Runs the scheduled calls until there are none. The one result left is the answer.
 fn run_state_machine(
-    graph: &[u32],
+    graph: &GraphCells,
     form: &mut [u32],
     work: &mut [u32],
     c: Counts,
@@ -162,7 +162,7 @@ fn run_state_machine(
 
 // One turn: the call that was scheduled last is run.
 fn step(
-    graph: &[u32],
+    graph: &GraphCells,
     form: &mut [u32],
     work: &mut [u32],
     c: Counts,

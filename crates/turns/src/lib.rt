@@ -43,6 +43,7 @@ impl Answers<'_> {
         self.answered(kinds, i, y)
     }
 
+    // The call at place i has its answer.
     fn write(&mut self, i: usize, r: Reply)
         requires { i < length self.old.codes.now }
         ensures same_room { SameRoom self.old self.new }

@@ -10,8 +10,8 @@ loop-var-init c = copy_start
 pub record_def-requires-clause-ex : goal.record_def-requires-clause-ex
 record_def-requires-clause-ex c = let p = c.requires in (_, copy_has c.loop-var-test.ensures c.loop-var.invariant p.copy_with.3)
 
-pub single_predecessor-requires-clause-block_lt_blocks : goal.single_predecessor-requires-clause-block_lt_blocks
-single_predecessor-requires-clause-block_lt_blocks c = copy_low c.loop-var-test.ensures c.loop-var.invariant c.requires.copy_with.3
+pub single_predecessor-requires : goal.single_predecessor-requires
+single_predecessor-requires c = copy_low c.loop-var-test.ensures c.loop-var.invariant c.requires.copy_with.3
 
 pub returns-in_default : goal.returns-in_default
 returns-in_default c = λ g s bs h. absurd (copy_some c.loop-var-test.ensures c.loop-var.invariant h c.in_default.is c.single_predecessor.ensures)

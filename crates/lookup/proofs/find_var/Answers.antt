@@ -22,8 +22,8 @@ record_stack_map_binding-requires c =
     let p = c.requires in
     (_, binding_has p.4 (c.walk-value.ensures _ _ (walk_can p.4.asks)) c.in_default.is c.append_block_param-d.ensures c.record_def.ensures)
 
-pub is_sealed-requires-clause-block_lt_blocks : goal.is_sealed-requires-clause-block_lt_blocks
-is_sealed-requires-clause-block_lt_blocks c = let p = c.requires in block_low p.4 (c.walk-value.ensures _ _ (walk_can p.4.asks))
+pub is_sealed-requires : goal.is_sealed-requires
+is_sealed-requires c = let p = c.requires in block_low p.4 (c.walk-value.ensures _ _ (walk_can p.4.asks))
 
 pub begin_predecessors_lookup-e-requires : goal.begin_predecessors_lookup-e-requires
 begin_predecessors_lookup-e-requires c =

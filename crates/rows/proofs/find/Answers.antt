@@ -1,19 +1,14 @@
--- `find` meets its contract: what is left of the row, searched from here, gives what the whole row gives.
+-- `find` meets its contract: `position` over the part gives the place that the search gives, and as a u32 it is the same number.
 -- Assumes nothing.
-use Rattle.std.proofs.Common.{sym, ◌∙◌}
-use borrow.Author.Tests.{lt-ltb, le-ltb}
-use Rattle.layout.proofs.Loops.{seek_found, seek_next, seek_end}
+use Rattle.std.proofs.Common.{rules, tests}
+use lib.Dec.{eqb}
+use Rattle.std.proofs.lemmas.Iterator.{YieldsList-from_slice}
+use Rattle.std.proofs.lemmas.Iterator.Search.{position_from_yields_List}
+use Rattle.rows.proofs.Parts.{row_part_place, placed}
 use Rattle.rows.proofs.find.Goals as goal
-
-pub returns-then-t-at : goal.returns-then-t-at
-returns-then-t-at c =
-    let e = seek_found _ _ _ _ _ c.loop-i-test.true (sym c.if-t-at.true) ∙ c.loop-i.invariant in
-    rw (← e, lt-ltb _ _ c.loop-i-test.true)
-
-pub loop-i-preserved : goal.loop-i-preserved
-loop-i-preserved c = seek_next _ _ _ _ _ c.loop-i-test.true (λ e. c.if-t-at.false (sym e)) ∙ c.loop-i.invariant
 
 pub returns : goal.returns
 returns c =
-    let e = seek_end _ _ _ _ _ c.loop-i-test.false ∙ c.loop-i.invariant in
-    rw (← e, le-ltb _ _ c.loop-i-test.false)
+    let found = position_from_yields_List (λ y. eqb y c.args.x) _ _ c.position.result c.position.ensures.ran
+    (YieldsList-from_slice _ c.iter.ensures.rest) (λ x b q k. search (rules, tests)) in
+    placed _ _ _ _ _ (row_part_place c.args.t.now c.args.at c.args.x _ _ c.requires.there found) c.map.ensures.cases (λ y lt q. search (rules, tests))

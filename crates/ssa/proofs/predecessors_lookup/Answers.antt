@@ -16,5 +16,5 @@ returns c =
     let S = c.begin_predecessors_lookup-d.ensures in
     has_filled h c.variable_type-ty.ensures S (c.run_state_machine.ensures g _ _ _ (fill_run h c.variable_type-ty.ensures S)) c.with_values.ensures
 
-pub variable_type-ty-requires-clause-var_lt_variables : goal.variable_type-ty-requires-clause-var_lt_variables
-variable_type-ty-requires-clause-var_lt_variables c = type_can c.requires.2
+pub variable_type-ty-requires : goal.variable_type-ty-requires
+variable_type-ty-requires c = type_can c.requires.2

@@ -8,4 +8,4 @@ use Rattle.ssa.proofs.settle_pending.Given as goal
 abbrev pub invariant-loop-k : goal.invariant-loop-k
 invariant-loop-k l =
     (g : Graph) (s : Form) → Marked l.fn.graph l.fn.form l.fn.work l.fn.c l.fn.block.0 g s
-    → Settling l.graph l.form l.work l.pending l.d l.block.0 l.n l.k g s
+    → Settling l.graph l.form l.work l.v-items l.d l.block.0 l.n l.k g s

@@ -1,7 +1,11 @@
--- `drawable` meets its contract: past the two counts, the blocks that are left decide.
+-- `drawable` meets its contract: past the two counts, the closure tells of each block whether it fits, so `all` tells it of all.
 -- Assumes nothing.
-use Rattle.std.proofs.Common.{sym, ◌∙◌}
-use Rattle.drawable.proofs.Checks.{passed_up, failed_up, all_passed_up, blocks_past, values_past, by_blocks}
+use Rattle.std.proofs.Common.{rules, tests, sym, ◌∙◌}
+use native.Mathlib.Omega.{arith}
+use Rattle.std.proofs.lemmas.Iterator.{YieldsList-from_range}
+use Rattle.std.proofs.lemmas.Iterator.Search.{all_from_yields_List}
+use Rattle.drawable.specs.Fits.{blocks, block_fits}
+use Rattle.drawable.proofs.Checks.{every_up, blocks_past, values_past, by_blocks}
 use Rattle.drawable.proofs.Tables.drawable.Goals as goal
 
 pub returns-then-blocks-gt-BLOCKS : goal.returns-then-blocks-gt-BLOCKS
@@ -10,15 +14,10 @@ returns-then-blocks-gt-BLOCKS c = sym (blocks_past _ _ c.if-blocks-gt-BLOCKS.tru
 pub returns-then-self-gt-VALUE_ROOM : goal.returns-then-self-gt-VALUE_ROOM
 returns-then-self-gt-VALUE_ROOM c = sym (values_past _ _ c.if-blocks-gt-BLOCKS.false c.if-self-gt-VALUE_ROOM.true)
 
-pub returns-then-not-block_fits : goal.returns-then-not-block_fits
-returns-then-not-block_fits c =
-    sym (failed_up _ _ _ c.loop-b-test.true (sym c.block_fits.ensures ∙ c.if-not-block_fits.true)) ∙ c.loop-b.invariant
-    ∙ sym (by_blocks _ _ c.if-blocks-gt-BLOCKS.false c.if-self-gt-VALUE_ROOM.false)
-
-pub loop-b-preserved : goal.loop-b-preserved
-loop-b-preserved c = passed_up _ _ _ c.loop-b-test.true (sym c.block_fits.ensures ∙ c.if-not-block_fits.false) ∙ c.loop-b.invariant
-
 pub returns : goal.returns
 returns c =
-    sym (all_passed_up _ _ _ c.loop-b-test.false) ∙ c.loop-b.invariant
+    let fits = block_fits c.args.self.now.graph.now c.args.self.now.form.now in
+    let n = blocks c.args.self.now.graph.now in
+    all_from_yields_List fits _ _ _ c.all.ensures.ran (YieldsList-from_range 0 n n (cc) (omega arith)) (λ b z q k. search (rules, tests))
+    ∙ every_up fits 0 n
     ∙ sym (by_blocks _ _ c.if-blocks-gt-BLOCKS.false c.if-self-gt-VALUE_ROOM.false)

@@ -4,7 +4,7 @@ use Rattle.std.proofs.Common.{rules, tests, refl, get_or, ◌∙◌}
 use Rattle.definition.specs.Base.{has}
 use Rattle.layout.proofs.Places.{any_of_places}
 use Rattle.graph.proofs.Declared.{all_named}
-use Rattle.graph.proofs.is_declared.Goals as goal
+use Rattle.graph.proofs.GraphCells.is_declared.Goals as goal
 
 pub returns : goal.returns
 returns c = λ g s.

@@ -3,7 +3,7 @@
 use Rattle.std.proofs.Common.{arith}
 use Rattle.layout.proofs.Rows.{row_entry}
 use Rattle.graph.proofs.Cells.{types_row}
-use Rattle.graph.proofs.variable_type.Goals as goal
+use Rattle.graph.proofs.GraphCells.variable_type.Goals as goal
 
 pub returns : goal.returns
-returns c = λ g s. row_entry _ _ _ _ (types_row s) _ (omega arith)
+returns c = rw c.self.view_is (λ g s. row_entry _ _ _ _ (types_row s) _ (omega arith))

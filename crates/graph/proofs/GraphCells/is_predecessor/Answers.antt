@@ -3,10 +3,10 @@
 use Rattle.std.proofs.Common.{◌∙◌}
 use Rattle.layout.proofs.Searches.{row_has}
 use Rattle.graph.proofs.Cells.{preds_row, preds_readable}
-use Rattle.graph.proofs.is_predecessor.Goals as goal
+use Rattle.graph.proofs.GraphCells.is_predecessor.Goals as goal
 
 pub has-requires : goal.has-requires
-has-requires c = preds_readable c.requires.graph_with.1 _ c.requires.block_lt_blocks c.preds_at.ensures
+has-requires c = preds_readable c.self.invariant.1 _ c.requires c.preds_at.ensures
 
 pub returns : goal.returns
-returns c = λ g s. c.has.ensures ∙ row_has _ _ _ _ (preds_row s _ c.requires.block_lt_blocks c.preds_at.ensures) _
+returns c = rw (← c.self.view_is) (λ g s. c.has.ensures ∙ row_has _ _ _ _ (preds_row s _ c.requires c.preds_at.ensures) _)
