@@ -35,7 +35,7 @@ pub fn resolve(targets: &[u32], value: Value) -> Result<Value, Unresolved>
     if targets.len() <= at as usize {
         return Err(Unresolved::Absent);
     }
-    for _ in 0..targets.len() {
+    for steps in 0..targets.len() {
         let next = targets[at as usize];
         if next == at {
             return Ok(Value(at));

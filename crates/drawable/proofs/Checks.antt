@@ -3,7 +3,7 @@
 use Prim.Native.Nat.{ℕ, zero, suc, ◌<◌, ◌≤◌}
 use mathlib.Core.Path.{◌≡◌, refl, sym, ap, ◌∙◌}
 use mathlib.Core.Bool.{Bool, true, false, not, ◌&&◌, ◌||◌}
-use mathlib.Core.List.{List, [], ◌∷◌}
+use mathlib.Core.List.{List}
 use native.Mathlib.Numerals.{add-one}
 use native.Mathlib.Omega.{arith}
 use borrow.Author.Tests.{ltb-true, leb-true, lt-ltb, le-leb, lt-leb}
@@ -19,14 +19,9 @@ use Rattle.layout.specs.Rows.{entries}
 use Rattle.drawable.specs.Fits.{params_at, dests_at, row_fits, blocks, values, branches, args_fit, branch_fits, block_fits, drawable}
 use Rattle.drawable.specs.Drawable.{RowFits, BranchFits, Drawable}
 
--- ---- all of a list, as the library says it
+-- ---- all of the numbers from i on, so many, as the library says it
 
 module _ (f : ℕ → Bool) where
-  pub every_of : (xs : List ℕ) → list_all f xs ≡ every f xs
-  every_of [] = refl
-  every_of (x ∷ xs) = ap (λ (z : Bool). f x && z) (every_of xs)
-
-  -- of the numbers from i on, so many
   pub every_up : (i n : ℕ) → list_all f (range_with_len i n) ≡ every f (up_from i n)
   every_up i zero = refl
   every_up i (suc n) = ap (λ (k : ℕ). f i && list_all f (range_with_len k n)) (add-one i) ∙ ap (λ (z : Bool). f i && z) (every_up (suc i) n)

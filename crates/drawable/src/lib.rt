@@ -22,11 +22,16 @@ pub struct Tables<'a> {
 
 const PARAM_ROOM: u32 = entity::PARAM_ROOM as u32;
 
-// Is each of them below n?
+// Is each of them below n? A loop: `all`, laid into the test of each destination, looks up anew for each number where the row lies.
 fn below(xs: &[u32], n: u32) -> bool
     ensures { result ≡ every (λ x. x <? n) xs.now }
 {
-    xs.iter().all(|x| *x < n)
+    for x in xs {
+        if n <= *x {
+            return false;
+        }
+    }
+    true
 }
 
 // Has the row at most as many entries as its room, each below n?

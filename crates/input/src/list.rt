@@ -1,5 +1,5 @@
 // A list is a line with its number of calls, then a line `kind x y z` for each; lists follow each other.
-ghost use Rattle.std.specs.Prelude.{◌≤◌};
+ghost use Rattle.std.specs.Prelude.{◌≡◌, ◌≤◌};
 ghost use Rattle.entity.specs.Limits.{limits};
 
 use crate::line::{Fault, Line, MOST};
@@ -7,6 +7,7 @@ use crate::line::{Fault, Line, MOST};
 const CALLS: usize = entity::CALLS as usize;
 
 // The calls of a list, up to the limit: a column each for their kinds, xs, ys and zs, as a session takes them. There is no heap, so each has room for all.
+// It is large, so one is made for all inputs and lent to the reading of each.
 #[derive(Drop)]
 pub struct Calls {
     kinds: [u32; CALLS],
@@ -18,7 +19,9 @@ pub struct Calls {
 }
 
 impl Calls {
-    fn new() -> Calls {
+    pub fn new() -> Calls
+        ensures { result.count ≡ 0 }
+    {
         Calls {
             kinds: [0; CALLS],
             xs: [0; CALLS],
@@ -86,13 +89,12 @@ struct Counts {
     left: u32,
 }
 
-// Where the reading stands.
-#[derive(Drop)]
+// Where the reading of an input stands.
+#[derive(Clone, Copy)]
 pub struct Reading {
     line: Line,
     // The list under way. If there is none, the next line tells how many calls it has.
     list: Option<Counts>,
-    calls: Calls,
 }
 
 impl Reading {
@@ -100,18 +102,12 @@ impl Reading {
         Reading {
             line: Line::first(),
             list: None,
-            calls: Calls::new(),
         }
     }
 
     // The number of the line that is read.
     pub fn place(&self) -> u64 {
         self.line.place()
-    }
-
-    // The calls of the list under way, or of the one that was whole last.
-    pub fn calls(&self) -> &Calls {
-        &self.calls
     }
 
     fn trouble(&self, fault: Fault) -> Trouble {
@@ -124,10 +120,10 @@ impl Reading {
     }
 
     // The line that tells how many calls follow.
-    fn opened(&mut self) -> Result<Counts, Fault> {
+    fn opened(&self, calls: &mut Calls) -> Result<Counts, Fault> {
         match self.line.numbers() {
             [want] => {
-                self.calls.clear();
+                calls.clear();
                 Ok(Counts {
                     want: *want,
                     left: *want,
@@ -138,10 +134,10 @@ impl Reading {
     }
 
     // A call's line, of this list. Calls above the limit are read and not kept.
-    fn called(&mut self, list: Counts) -> Result<Counts, Fault> {
+    fn called(&self, calls: &mut Calls, list: Counts) -> Result<Counts, Fault> {
         match self.line.numbers() {
             [kind, x, y, z] => {
-                self.calls.keep([*kind, *x, *y, *z]);
+                calls.keep([*kind, *x, *y, *z]);
                 Ok(Counts {
                     want: list.want,
                     left: list.left.saturating_sub(1),
@@ -152,10 +148,10 @@ impl Reading {
     }
 
     // Goes on to the next line, of this list or of the next.
-    fn line_end(&mut self) -> Result<Option<u32>, Trouble> {
+    fn line_end(&mut self, calls: &mut Calls) -> Result<Option<u32>, Trouble> {
         let read = match self.list {
-            None => self.opened(),
-            Some(list) => self.called(list),
+            None => self.opened(calls),
+            Some(list) => self.called(calls, list),
         };
         let list = read.map_err(|fault| self.trouble(fault))?;
         self.line = self.line.after();
@@ -167,10 +163,10 @@ impl Reading {
         Ok(None)
     }
 
-    // Takes one byte more. Where it ends a list, the answer is how many calls that has; they stay until the next byte.
-    pub fn take(&mut self, byte: u8) -> Result<Option<u32>, Trouble> {
+    // Takes one byte more. Where it ends a list, the answer is how many calls that has; they stay in `calls` until the next byte.
+    pub fn take(&mut self, calls: &mut Calls, byte: u8) -> Result<Option<u32>, Trouble> {
         if byte == b'\n' {
-            return self.line_end();
+            return self.line_end(calls);
         }
         let read = self.line.take(byte);
         read.map_err(|fault| self.trouble(fault))?;
@@ -190,10 +186,10 @@ impl Reading {
     }
 
     // The input is at its end: a last line may lack its end.
-    pub fn end(&mut self) -> Result<Option<u32>, Trouble> {
+    pub fn end(&mut self, calls: &mut Calls) -> Result<Option<u32>, Trouble> {
         let mut whole = None;
         if !self.line.numbers().is_empty() {
-            whole = self.line_end()?;
+            whole = self.line_end(calls)?;
         }
         self.lacking()?;
         Ok(whole)

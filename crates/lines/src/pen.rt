@@ -1,13 +1,38 @@
 // A pen: a lent buffer, and the place in it where the next byte goes. What the buffer has no room for is left out, so that a text can be measured before it
 // is written.
-ghost use Rattle.std.specs.Prelude.{◌≡◌, List, [], ◌∷◌, ◌++◌, ◌+◌, ◌<◌, ◌≤◌, ◌^◌, length};
+ghost use Rattle.std.specs.Prelude.{◌≡◌, ◌++◌, ◌+◌, ◌<◌, ◌≤◌, ◌^◌, length, set};
 ghost use Rattle.lines.specs.Text.{decimal};
-ghost use Rattle.lines.specs.Wrote.{Writes};
+ghost use Rattle.lines.specs.Wrote.{Wrote, Writes};
 
 #[derive(Drop)]
 pub struct Pen<'a> {
     pub out: &'a mut [u8],
     pub at: usize,
+}
+
+// One byte, if the buffer has that place. Buffer and place are values of their own: through a `&mut Pen` both would be read again at each byte, and the place
+// stored.
+fn poke(out: &mut [u8], at: usize, byte: u8)
+    ensures { out.new ≡ set out.old at byte }
+{
+    if at < out.len() {
+        out[at] = byte;
+    }
+}
+
+// In decimal, and the place after it: the digits before the last are those of a tenth.
+fn put_digits(out: &mut [u8], at: usize, n: u32) -> usize
+    requires { at < 2 ^ 62 }
+    ensures wrote { Wrote out.old at (decimal n) out.new result }
+    ensures upper_bound { result ≤ at + 1 + n }
+{
+    let (last, digit) = if n < 10 {
+        (at, n)
+    } else {
+        (put_digits(out, at, n / 10), n % 10)
+    };
+    poke(out, last, (48 + digit) as u8);
+    last + 1
 }
 
 impl<'a> Pen<'a> {
@@ -19,36 +44,24 @@ impl<'a> Pen<'a> {
         Pen { out, at: 0 }
     }
 
-    // One byte, if the buffer has that place.
-    fn poke(&mut self, byte: u8)
-        requires { self.old.at < 2 ^ 63 }
-        ensures { Writes self.old (byte ∷ []) self.new }
-    {
-        if self.at < self.out.len() {
-            self.out[self.at] = byte;
-        }
-        self.at += 1;
-    }
-
     pub fn put(&mut self, text: &[u8])
         requires { self.old.at + length text.now < 2 ^ 63 }
         ensures { Writes self.old text.now self.new }
     {
-        for byte in text {
-            self.poke(*byte);
+        let at = self.at;
+        let out = &mut *self.out;
+        for (i, byte) in text.iter().enumerate() {
+            poke(out, at + i, *byte);
         }
+        self.at += text.len();
     }
 
-    // In decimal: the digits before the last are those of a tenth.
     fn put_number(&mut self, n: u32)
         requires { self.old.at < 2 ^ 62 }
         ensures wrote { Writes self.old (decimal n) self.new }
         ensures upper_bound { self.new.at ≤ self.old.at + 1 + n }
     {
-        if n >= 10 {
-            self.put_number(n / 10);
-        }
-        self.poke((48 + n % 10) as u8);
+        self.at = put_digits(self.out, self.at, n);
     }
 
     // A text and a number after it.

@@ -1,11 +1,15 @@
 // What the programs share: the lists of calls in the named files, or those on standard input, are run in turn, and what each session leaves is shown.
 #![tactic(auto)]
 
-use input::list::{Reading, Trouble};
+ghost use Rattle.std.specs.Prelude.{◌≡◌};
+ghost use Rattle.program.specs.Shows.{shown_by};
+
+use input::list::{Calls, Reading, Trouble};
 use input::tell;
 use options::{Options, ROOM};
 use phrases::out::Out;
 use phrases::reason::Words;
+use run::Tables;
 use std::env::Env;
 use std::fmt::Display;
 use std::fs::File;
@@ -21,6 +25,19 @@ pub enum Show {
     Letters,
     Words,
     Picture,
+}
+
+// A caller may name the way by a number too, and a number that names none means letters.
+impl From<u32> for Show {
+    ghost from_gives = { λ n s. s ≡ shown_by n };
+
+    fn from(n: u32) -> Show {
+        match n {
+            1 => Show::Words,
+            2 => Show::Picture,
+            _ => Show::Letters,
+        }
+    }
 }
 
 // How many bytes of output wait before they are written.
@@ -65,6 +82,10 @@ struct Program<'w, 'o> {
     who: &'w [u8],
     show: Show,
     out: Out<'o, HostRuntime>,
+    // The calls of the list under way, or of the one that was whole last.
+    calls: &'o mut Calls,
+    // What the sessions are lent, one after the other.
+    tables: &'o mut Tables,
 }
 
 impl Program<'_, '_> {
@@ -76,7 +97,7 @@ impl Program<'_, '_> {
     // Takes what came of an input, and shows what each list leaves that is whole.
     fn take(&mut self, input: &mut Input<'_>, bytes: &[u8]) -> Result<(), Stop> {
         for byte in bytes {
-            if let Some(count) = input.reading.take(*byte)? {
+            if let Some(count) = input.reading.take(self.calls, *byte)? {
                 self.answer(input, count)?;
             }
         }
@@ -85,7 +106,7 @@ impl Program<'_, '_> {
 
     // The input is at its end.
     fn end(&mut self, input: &mut Input<'_>) -> Result<(), Stop> {
-        match input.reading.end()? {
+        match input.reading.end(self.calls)? {
             Some(count) => self.answer(input, count),
             None => Ok(()),
         }
@@ -168,10 +189,19 @@ impl Program<'_, '_> {
 }
 
 // The whole of a program: its name for messages, what --help prints, and how it shows a session.
-pub fn start(rt: HostRuntime, who: &[u8], help: &[u8], show: Show) {
+pub fn start(rt: HostRuntime, who: &[u8], help: &[u8], show: impl Into<Show>) {
     let mut room = [0u8; OUTPUT];
     let out = Out::new(&rt, &mut room);
-    let mut program = Program { rt, who, show, out };
+    let mut calls = Calls::new();
+    let mut tables = Tables::new();
+    let mut program = Program {
+        rt,
+        who,
+        show: show.into(),
+        out,
+        calls: &mut calls,
+        tables: &mut tables,
+    };
     if let Some(asked) = program.asked() {
         program.work(help, asked);
     }

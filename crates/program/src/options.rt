@@ -50,7 +50,7 @@ impl Options {
 
 // How many arguments the program was started with, its own name among them. There is no heap for a list of them: the handle tells them one by one, into a room
 // that is lent, and not how many there are.
-pub fn count(rt: &impl Env) -> usize {
+pub fn count(rt: &HostRuntime) -> usize {
     let mut space = [0u8; ROOM];
     for i in 0..usize::MAX {
         if let Err(FillError::NotPresent) = rt.arg(i, &mut space) {

@@ -1,4 +1,7 @@
-// Runs a list over tables of its own, and shows what the session leaves.
+// Runs a list over the program's tables, and shows what the session leaves.
+ghost use Rattle.std.specs.Prelude.{◌≡◌, suc, ◌*◌, length};
+ghost use Rattle.entity.specs.Limits.{limits, param_room, graph_need, form_need, work_need};
+
 use crate::{Input, Program, Show, Stop};
 use draw::Undrawn;
 use dump::Left;
@@ -14,9 +17,10 @@ const PICTURE_BYTES: usize = entity::BLOCKS as usize
     * (1 + entity::DESTS as usize)
     * (8 * entity::PARAM_ROOM);
 
-// What a session is lent besides its calls. It starts empty whatever they hold. There is no heap, so each table has all its cells.
+// What a session is lent besides its calls. It starts empty whatever they hold, so all lists can have the same. There is no heap, so each table has all its
+// cells.
 #[derive(Drop)]
-struct Tables {
+pub struct Tables {
     codes: [u32; CALLS],
     numbers: [u32; CALLS],
     graph: [u32; entity::GRAPH_NEED],
@@ -25,7 +29,14 @@ struct Tables {
 }
 
 impl Tables {
-    fn new() -> Tables {
+    // Each has the length that a session of any list needs.
+    pub fn new() -> Tables
+        ensures codes_long { limits.calls ≡ length result.codes }
+        ensures numbers_long { limits.calls ≡ length result.numbers }
+        ensures graph_long { graph_need limits ≡ length result.graph }
+        ensures form_long { form_need limits ≡ length result.form }
+        ensures work_long { work_need limits ≡ length result.work }
+    {
         Tables {
             codes: [0; CALLS],
             numbers: [0; CALLS],
@@ -99,14 +110,17 @@ impl Display for NoPicture {
 }
 
 // The room of a picture is made by a function of its own: to count so many bytes where they are lent takes the prover too long.
-fn picture_bytes() -> [u8; PICTURE_BYTES] {
+fn picture_bytes() -> [u8; PICTURE_BYTES]
+    ensures { limits.blocks * suc limits.dests * (8 * param_room limits) ≡ length result }
+{
     [0; PICTURE_BYTES]
 }
 
 impl Program<'_, '_> {
     // Tables that a session left can be drawn, and the buffer is long enough; should it not be, that is told.
-    fn picture(&mut self, name: &[u8], tables: &Tables) {
+    fn picture(&mut self, name: &[u8]) {
         let mut text = picture_bytes();
+        let tables = &*self.tables;
         match draw::draw(&tables.graph, &tables.form, &mut text) {
             Ok(length) => {
                 let _ = self.out.bytes(&text[..length]);
@@ -116,11 +130,11 @@ impl Program<'_, '_> {
     }
 
     // Shows what the session of a list left.
-    fn show(&mut self, input: &Input<'_>, tables: &Tables) {
+    fn show(&mut self, input: &Input<'_>) {
         let Some(style) = self.show.style() else {
-            return self.picture(input.name, tables);
+            return self.picture(input.name);
         };
-        let left = tables.left(input.reading.calls());
+        let left = self.tables.left(self.calls);
         let _ = dump::dump(&mut self.out, style, &left);
     }
 
@@ -135,9 +149,8 @@ impl Program<'_, '_> {
     // A list of so many calls is whole: runs it, and shows what the session leaves. One that has more calls than a session takes is refused whole.
     // A write that fails is told by the output, which is lost then.
     pub fn answer(&mut self, input: &Input<'_>, count: u32) -> Result<(), Stop> {
-        let mut tables = Tables::new();
-        if count <= entity::CALLS && tables.run(input.reading.calls()) {
-            self.show(input, &tables);
+        if count <= entity::CALLS && self.tables.run(self.calls) {
+            self.show(input);
         } else {
             self.refuse(input, count);
         }

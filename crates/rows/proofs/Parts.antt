@@ -1,5 +1,5 @@
--- A row's entries are one part of the list: whether and where an entry is in that part is what the search finds, and zeros over the count and that part are
--- what the wiping, cell by cell, leaves.
+-- A row's entries are one part of the list: where an entry is in that part is what the search finds, and zeros over the count and that part are what the
+-- wiping, cell by cell, leaves.
 -- Assumes nothing.
 use Prim.Native.Nat.{ℕ, zero, suc, ◌+◌, ◌-◌, ◌<◌}
 use mathlib.Core.Logic.{inl, inr}
@@ -9,7 +9,7 @@ use mathlib.Core.List.{List, append_assoc}
 use native.Mathlib.Nat.{add-zero, zero-add}
 use native.Mathlib.Omega.{arith}
 use lib.Dec.{eqb, ltb}
-use borrow.Author.Tests.{eq-eqb, ne_eqb, ltb-true, lt-ltb, le-ltb}
+use borrow.Author.Tests.{eq-eqb, ne_eqb, ltb-true}
 use borrow.Rule.Slice.PartMut.{put_mid}
 use lib.ListN.{length, get_or, set, take, drop, replicate, length-replicate, length-take, length-drop}
 use lib.Seq.{paste}
@@ -17,30 +17,12 @@ use Rattle.std.proofs.lemmas.List.{drop_more, take_more, take_all, set_at, drop-
 use Rattle.std.proofs.lemmas.List.Edits.{paste_none, fill_from_more}
 use Rattle.std.specs.Prelude.{Option, Some, None}
 use Rattle.std.specs.Option.{MatchOption, IsSomeAnd}
-use Rattle.std.specs.List.{list_any, position_or_len}
+use Rattle.std.specs.List.{position_or_len}
 use Rattle.meaning.proofs.Maps.{same?}
 use Rattle.layout.specs.Rows.{seek, wipe}
 
 module _ (l : List ℕ) (a : ℕ) where
-  -- the m entries from the one at i on
-  part_has : (x m i : ℕ) → a + i + m < length l → list_any (λ y. eqb y x) (take m (drop (a + 1 + i) l)) ≡ ltb (seek l a x m i) (i + m)
-  unfolding seek
-  part_has x zero i h = sym (le-ltb i (i + 0) (omega arith))
-  part_has x (suc m) i h =
-      let here : a + 1 + i < length l = omega arith in
-      let next : a + 1 + i + 1 ≡ a + 1 + (i + 1) = omega arith in
-      let end : i + 1 + m ≡ i + suc m = omega arith in
-      let rest : list_any (λ y. eqb y x) (take m (drop (a + 1 + (i + 1)) l)) ≡ ltb (seek l a x m (i + 1)) (i + 1 + m) = part_has x m (i + 1) (omega arith) in
-      rw (drop_more l (a + 1 + i) 0 here, next) (elim (same? (get_or l (a + 1 + i) 0) x) [
-        | inl e ↦ rw (eq-eqb _ _ e, eq-eqb x (get_or l (a + 1 + i) 0) (sym e)) (sym (lt-ltb i (i + suc m) (omega arith)))
-        | inr d ↦ rw (ne_eqb _ _ d, ne_eqb x (get_or l (a + 1 + i) 0) (λ e. d (sym e)), ← end) rest
-      ])
-
-  pub row_part_has : (x n : ℕ) → a + n < length l → list_any (λ y. eqb y x) (take (a + 1 + n - (a + 1)) (drop (a + 1) l)) ≡ ltb (seek l a x n 0) n
-  row_part_has x n h =
-      let e : a + 1 + n - (a + 1) ≡ n = omega arith in
-      rw e (simp (add-zero, zero-add) at (part_has x n 0 (omega arith)))
-
+  -- of the m entries from the one at i on
   part_place : (x m i : ℕ) → a + i + m < length l → i + position_or_len (λ y. eqb y x) (take m (drop (a + 1 + i) l)) ≡ seek l a x m i
   unfolding seek
   part_place x zero i h = add-zero i

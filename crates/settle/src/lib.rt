@@ -67,11 +67,15 @@ fn append_argument(graph: &GraphCells, form: &mut [u32], branch: Branch, dest: B
         → Cells form.new (with_args s (feed branch.0 dest.0 val.0 (g.dests branch.0) s.args)) }
 {
     let n = graph.dest_count(branch);
-    for i in 0..n {
+    let mut i: u32 = 0;
+    while i < n {
         let d = graph.dest(branch, i);
-        if d == dest {
-            form::append_argument(form, branch, i, val);
+        if d.0 != dest.0 {
+            i += 1;
+            continue;
         }
+        form::append_argument(form, branch, i, val);
+        i += 1;
     }
 }
 

@@ -9,13 +9,13 @@ pub returns-then-targets-at : goal.returns-then-targets-at
 returns-then-targets-at c = past (omega arith)
 
 pub returns-then-next-at : goal.returns-then-next-at
-returns-then-next-at c = came_to_end c.loop.invariant c.if-next-at.true
+returns-then-next-at c = came_to_end c.loop-steps.invariant c.if-next-at.true
 
-pub loop-preserved : goal.loop-preserved
-loop-preserved c = goes_on c.loop.invariant c.if-next-at.false c.if-targets-next.false
+pub loop-steps-preserved : goal.loop-steps-preserved
+loop-steps-preserved c = goes_on c.loop-steps.invariant c.if-next-at.false c.if-targets-next.false
 
-pub returns-after-loop : goal.returns-after-loop
-returns-after-loop c = went_round c.loop.invariant c.loop-test.false
+pub returns-after-loop-steps : goal.returns-after-loop-steps
+returns-after-loop-steps c = went_round c.loop-steps.invariant c.loop-steps-test.false
 
 pub returns-then-targets-next : goal.returns-then-targets-next
-returns-then-targets-next c = left_list c.loop.invariant c.if-next-at.false c.if-targets-next.true
+returns-then-targets-next c = left_list c.loop-steps.invariant c.if-next-at.false c.if-targets-next.true

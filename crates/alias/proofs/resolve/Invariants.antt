@@ -3,5 +3,5 @@
 use Rattle.alias.proofs.Walks.{Walked}
 use Rattle.alias.proofs.resolve.Given as goal
 
-abbrev pub invariant-loop : goal.invariant-loop
-invariant-loop l = Walked l.targets l.initial.at l.at l.counter
+abbrev pub invariant-loop-steps : goal.invariant-loop-steps
+invariant-loop-steps l = Walked l.targets l.initial.at l.at l.steps
