@@ -35,6 +35,13 @@ pub sets_append : (l : List ℕ) (i : ℕ) (xs ys : List ℕ) → sets l i (xs +
 sets_append l i [] ys = rw (add-zero i)
 sets_append l i (x ∷ xs) ys = sets_append (set l i x) (suc i) xs ys ∙ ap (λ (k : ℕ). sets (sets (set l i x) (suc i) xs) k ys) (omega arith)
 
+-- a byte more of the text t is written, at the place k behind those before it
+pub byte_more : {l m n : List ℕ} {a i k : ℕ} (t : List ℕ) → Wrote l a (take i t) m (a + i) → i < length t → n ≡ set m k (get_or t i 0) → k ≡ a + i
+    → Wrote l a (take (i + 1) t) n (a + (i + 1))
+byte_more {i = i} t w h s e =
+    let more = take_more t i 0 h in
+    record { end = rw more (simp length-append (omega (arith, w.end))); out = s ∙ rw (more, sets_append, e) (cc (w.end, w.out)) }
+
 -- ---- pieces
 
 pub no_piece : {p : Pen} → Writes p [] p

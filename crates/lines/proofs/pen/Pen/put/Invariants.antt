@@ -1,8 +1,8 @@
--- What is left of the text, stored from here on, leaves what all of it leaves, stored from the start.
+-- As much of the text is written as turns are over.
 -- Assumes nothing.
-use Rattle.std.proofs.Common.{drop, ◌≡◌, ◌+◌}
-use Rattle.std.proofs.lemmas.List.Edits.{sets}
+use Rattle.std.proofs.Common.{take, ◌+◌}
+use Rattle.lines.specs.Wrote.{Wrote}
 use Rattle.lines.proofs.pen.Pen.put.Given as goal
 
 abbrev pub invariant-loop-i : goal.invariant-loop-i
-invariant-loop-i l = sets l.out (l.at + l.i) (drop l.i l.text) ≡ sets l.initial.out l.at l.text
+invariant-loop-i l = Wrote l.initial.out l.at (take l.i l.text) l.out (l.at + l.i)
